@@ -5,9 +5,11 @@ usage: fuzz_cores.py [--cores PROGRAM] [--cases N] [--seed N]
 (default: crates/cores/out/cores beside this folder, 500 cases of seed 1)
 
 The model follows the definitions: core numbers by taking vertices away, k-cores and layers from these. Of `order` it tests that the lines
-certify the numbers. Some runs ask for JSON, and its objects are those of Python's json. `check` is run on what `order` and `layers` write, and on the same with lines changed, swapped, left out, repeated or
-made foreign. At last a reader goes away that has taken one line. An input that differs is printed, and the status is 1 then. Tables with
-options that tell how they are read are those of `fuzz_tables.py`.
+certify the numbers. Some runs ask for JSON, and its objects are those of Python's json. `check` is run on what `order` and `layers` write,
+and on the same with lines changed, swapped, left out, repeated or made foreign. Then a line that is wrong stands among the others: what is
+told has to name line and column, and to show the line with a caret. Some inputs begin with a byte order mark. At last a reader goes away
+that has taken one line. An input that differs is printed, and the status is 1 then. Tables with options that tell how they are read are
+those of `fuzz_tables.py`.
 """
 import argparse
 import json
@@ -207,6 +209,51 @@ def is_quiet(program):
         return (running.wait(), line, told) == (0, b"0\t1\n", b"")
 
 
+# a line that is refused, and the column that is told of it
+WRONG_LINES = (("1 x", 3), ("x 1", 1), ("7", 2), ("1 2 3", 5), ("4294967296 1", 1), ("12\t99999999999", 4), ("-1 2", 1), ("1 2 ö", 5), ("1 \x07", 3),
+               ("batch", None), ("+ 1 2", None))
+HEAD = 1 << 20
+
+
+def shown_byte(b):
+    """A byte as a message shows it."""
+    return chr(b) if 32 <= b <= 126 else "\\t" if b == 9 else f"\\x{b:02x}"
+
+
+def shown_lines(text, number, column):
+    """The refused line of a text as a message shows it, with a caret under the column, where the line stands in the head of the text."""
+    head = text[:HEAD].removeprefix(b"\xef\xbb\xbf")
+    lines = head.split(b"\n")
+    lines = lines[:-1] if lines[-1] == b"" else lines
+    if not column or number > len(lines):
+        return []
+    line = lines[number - 1].removesuffix(b"\r")
+    if column > len(line) + 1:
+        return []
+    cut = max(0, column - 41)
+    shown = [shown_byte(b) for b in line[cut:cut + 60]]
+    return ["    " + "".join(shown), "    " + " " * len("".join(shown[:column - 1 - cut])) + "^"]
+
+
+def marked(draw, text):
+    """A text, behind a byte order mark now and then."""
+    return ("\ufeff" if draw.random() < 0.1 else "") + text
+
+
+def wrong_refusals(program, draw, text):
+    """The refused texts of which is told otherwise than the model says: a wrong line stands among the others, sometimes far to the right."""
+    for wrong, column in draw.sample(WRONG_LINES, 3):
+        lines, blanks = text.split("\n"), " " * draw.choice((0, 0, 3, 39, 40, 41, 90))
+        number = draw.randrange(len(lines)) + 1
+        lines.insert(number - 1, blanks + wrong + draw.choice(("", "\r", " " * 80)) * (wrong != "7"))
+        given = marked(draw, "\n".join(lines)).encode()
+        column = column and column + len(blanks)
+        place = f"cores: line {number}, column {column}: " if column else f"cores: line {number}: "
+        status, written_lines, told = run(program, ("numbers",), given)
+        if (status, written_lines, told.splitlines()[1:]) != (3, "", shown_lines(given, number, column)) or not told.startswith(place):
+            yield "numbers", repr(given), repr(told)
+
+
 def run(program, words, text):
     """The status, the output and what is told of a run with this text as standard input."""
     given = text if isinstance(text, bytes) else text.encode()
@@ -220,6 +267,7 @@ def faults(program, draw, text, k):
     core = core_numbers(neighbours)
     size = sum(map(len, neighbours.values())) // 2
     summary = f"vertices {len(core)} edges {size} top {max(core.values(), default=0)}\n"
+    text = marked(draw, text)
     for words, (names, rows) in wanted(neighbours, core, k).items():
         quiet = ("--quiet",) if draw.random() < 0.2 else ()
         asked, told = (*words, *quiet, *draw.choice(FORMATS)), "" if quiet else summary
@@ -246,13 +294,14 @@ def main():
         text, k = text_of(draw), draw.randrange(6)
         with tempfile.TemporaryDirectory() as place:
             checks = wrong_checks(chosen.cores, draw, text, pathlib.Path(place))
-            for found in (*faults(chosen.cores, draw, text, k), *checks):
+            refusals = wrong_refusals(chosen.cores, draw, text)
+            for found in (*faults(chosen.cores, draw, text, k), *checks, *refusals):
                 wrong += 1
                 print(f"case {case}: cores {' '.join(found)} differs on {text!r}")
     if not is_quiet(chosen.cores):
         wrong += 1
         print("cores numbers: a reader that goes away is told as a fault")
-    print(f"{chosen.cases} cases of seed {chosen.seed}, eight commands and fourteen checks each: {wrong or 'none'} wrong")
+    print(f"{chosen.cases} cases of seed {chosen.seed}, eight commands, fourteen checks and three refusals each: {wrong or 'none'} wrong")
     sys.exit(1 if wrong else 0)
 
 

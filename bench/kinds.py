@@ -19,6 +19,7 @@ import importlib
 import json
 import lzma
 import pathlib
+import re
 import shutil
 import subprocess
 import sys
@@ -63,7 +64,6 @@ def refused(kind, text, line, column, mends, *words, **more):
     return Row(kind, text.encode() if isinstance(text, str) else text, words, line=line, column=column, mends=mends, **more)
 
 
-NO_COLUMN = "the plain reading names no column"
 TAKEN_AS_EDGE = "taken as an edge, without a word"
 
 
@@ -90,16 +90,16 @@ def column_rows():
     temporal = "1 2 1217567877\n2 3 1217573801\n"
     konect = "% bip weighted\n% 2 3 3\n1 2 0.5 1217567877\n2 3 1 1217573801\n"
     return [
-        refused("temporal SNAP", temporal, 1, 5, "--columns 1,2", known=NO_COLUMN),
+        refused("temporal SNAP", temporal, 1, 5, "--columns 1,2"),
         right("temporal SNAP", temporal, PATH, "--columns", "1,2"),
-        refused("KONECT with weight and time", konect, 3, 5, "--columns 1,2", known=NO_COLUMN),
+        refused("KONECT with weight and time", konect, 3, 5, "--columns 1,2"),
         right("KONECT with weight and time", konect, PATH, "--columns", "1,2"),
         right("SNAP with a sign", "# FromNodeId\tToNodeId\tSign\n1\t2\t-1\n2\t3\t1\n", PATH, "--columns", "1,2"),
         right("a weight in front", "0.5\t1\t2\n-1e9\t2\t3\n", PATH, "--columns", "2,3"),
-        refused("networkx.write_edgelist", "1 2 {}\n2 3 {}\n", 1, 5, "--columns 1,2", known=NO_COLUMN),
+        refused("networkx.write_edgelist", "1 2 {}\n2 3 {}\n", 1, 5, "--columns 1,2"),
         right("networkx.write_edgelist", "1 2 {}\n2 3 {'weight': 0.5, 'x': 1}\n", PATH, "--columns", "1,2"),
         right("networkx.write_weighted_edgelist", "1 2 0.5\n2 3 1\n", PATH, "--columns", "1,2"),
-        refused("trailing comment", "1 2 # best friends\n2 3\n", 1, 5, "--columns 1,2", known=NO_COLUMN),
+        refused("trailing comment", "1 2 # best friends\n2 3\n", 1, 5, "--columns 1,2"),
         right("trailing comment", "1 2 # best friends\n2 3\n", PATH, "--columns", "1,2"),
     ]
 
@@ -110,29 +110,28 @@ def csv_rows():
         right("CSV", "1,2\n2,3\n", PATH, name="graph.csv"),
         right("CSV, no end of the last line", "1,2\r\n2,3", PATH, name="graph.csv"),
         right("CSV by a pipe", "1,2\n2,3\n", PATH, "--separator", "comma", by_pipe=True),
-        refused("CSV that is not named so", "1,2\n2,3\n", 1, 1, "--separator", known=NO_COLUMN),
+        refused("CSV that is not named so", "1,2\n2,3\n", 1, 1, "--separator"),
         right("CSV that is not named so", "1,2\n2,3\n", PATH, "--separator", "comma"),
-        refused("CSV named in capitals", "1,2\n2,3\n", 1, 1, "--separator", name="GRAPH.CSV", known=NO_COLUMN),
+        refused("CSV named in capitals", "1,2\n2,3\n", 1, 1, "--separator", name="GRAPH.CSV"),
         refused("CSV with a header", "from,to\n1,2\n2,3\n", 1, 1, "--skip", name="graph.csv"),
         right("CSV with a header", "from,to\n1,2\n2,3\n", PATH, "--skip", "1", name="graph.csv"),
         right("CSV, a comma and a blank", "1, 2\n2, 3\n", PATH, name="graph.csv"),
         right("CSV, quoted", '"1","2","likes, and more"\n"2","3",""\n', PATH, name="graph.csv"),
         right("CSV with rating and time (bitcoin-otc)", "1,2,-10,1217567877\n2,3,7,1217573801\n", PATH, name="graph.csv"),
         right("pandas.to_csv with its index", ",source,target\n0,1,2\n1,2,3\n", PATH, "--skip", "1", "--columns", "2,3", name="graph.csv"),
-        refused("semicolons in a .csv (Excel in Europe)", "1;2\n2;3\n", 1, 1, "--separator", name="graph.csv",
-                known="the message of a column does not name --separator, though a .csv with semicolons is common"),
+        refused("semicolons in a .csv (Excel in Europe)", "1;2\n2;3\n", 1, 1, "--separator", name="graph.csv"),
         right("semicolons in a .csv (Excel in Europe)", "1;2\n2;3\n", PATH, "--separator", "semicolon", name="graph.csv"),
-        refused("semicolons", "1;2\n2;3\n", 1, 1, "--separator", known=NO_COLUMN),
+        refused("semicolons", "1;2\n2;3\n", 1, 1, "--separator"),
         right("TSV", "1\t2\tx y\n2\t3\t\n", PATH, name="graph.tsv"),
         right("TSV with an empty cell before the ids", "\t1\t2\na\t2\t3\n", PATH, "--columns", "2,3", name="graph.tsv"),
         refused("an empty cell", "1,2\n2,\n", 2, 3, "--bad-lines skip", name="graph.csv"),
         refused("a bar (CAIDA)", "1|2|-1\n2|3|0\n", 1, 1, "tr '|' ' '", known="no separator `bar`, and no word of how to mend it"),
-        refused("a header of words between blanks", "from to\n1 2\n2 3\n", 1, 1, "--skip", known=NO_COLUMN),
+        refused("a header of words between blanks", "from to\n1 2\n2 3\n", 1, 1, "--skip"),
         right("a header of words between blanks", "from to\n1 2\n2 3\n", PATH, "--skip", "1"),
         right("CSV with CRLF and times, columns the other way round", "t,1,2\r\nt,2,3\r\n", PATH, "--columns", "3,2", name="graph.csv"),
-        refused("whole numbers as floats (numpy.savetxt)", "1.0 2.0\n2.0 3.0\n", 1, 1, "whole number", known=NO_COLUMN),
+        refused("whole numbers as floats (numpy.savetxt)", "1.0 2.0\n2.0 3.0\n", 1, 1, "whole number"),
         right("a bad line that is passed over", "1,2\nx,y\n2,3\n", PATH, "--bad-lines", "skip", name="graph.csv",
-              told=("line 2, column 1: ", "1 lines were passed over")),
+              told=("line 2, column 1: ", "1 line was passed over")),
     ]
 
 
@@ -145,29 +144,27 @@ def format_rows():
     pajek = '*Vertices 3\n1 "a"\n2 "b"\n3 "c"\n*Edges\n1 2 1\n2 3 1\n'
     size_line = "3 2\n1 2\n2 3\n"
     return [
-        refused("MatrixMarket", matrix, 3, 5, ("MatrixMarket", "--skip"),
-                known="the size line is refused for its third field, and --columns is named, which reads it as an edge"),
+        refused("MatrixMarket", matrix, 3, 5, ("MatrixMarket", "--skip")),
         right("MatrixMarket", matrix, PATH, "--skip", "3"),
         right("MatrixMarket with values", reals, PATH, "--skip", "2", "--columns", "1,2"),
         refused("MatrixMarket with values and --columns alone", reals, 2, 1, "MatrixMarket", "--columns", "1,2",
                 known=f"the size line is {TAKEN_AS_EDGE}: an id 9 of core number 0", silent=True),
         refused("a header line n m", "9 2\n1 2\n2 3\n", 1, 1, "--skip", known=f"{TAKEN_AS_EDGE}; nothing in the file tells it", silent=True),
         right("a header line n m", size_line, PATH, "--skip", "1"),
-        refused("adjacency list", adjacency, 1, 5, "adjacency",
-                known="--columns 1,2 is named, by which all neighbours but the first are lost without a word"),
+        refused("adjacency list", adjacency, 1, 5, "adjacency"),
         refused("adjacency list, no vertex alone", "1 2 3\n2 3\n3 4\n", 1, 5, "adjacency", "--columns", "1,2",
                 known="lines of different lengths are read without a word", silent=True),
-        refused("DIMACS", dimacs, 1, 1, "--columns", known=NO_COLUMN),
+        refused("DIMACS", dimacs, 1, 1, "--columns"),
         right("DIMACS", dimacs, PATH, "--columns", "2,3", "--bad-lines", "skip",
               told=("line 1, column 3: ", "line 2, column 3: ", "2 lines were passed over")),
-        refused("Pajek", pajek, 1, 1, "--skip", known=NO_COLUMN),
+        refused("Pajek", pajek, 1, 1, "--skip"),
         right("Pajek", pajek, PATH, "--skip", "5", "--columns", "1,2"),
         refused("JSON lines", '{"source": 1, "target": 2}\n', 1, 1, "jq", known="no word of jq, by which it is mended: jq -r '[.source,.target]|@tsv'"),
         refused("a batch of kcore", "1 2\nbatch\n+ 2 3\n", 2, None, "kcore"),
         refused("a change of kcore", "1 2\n+ 2 3\n", 2, None, "kcore"),
-        refused("a sign without a blank", "+1 2\n", 1, 1, "whole number", known=NO_COLUMN),
-        refused("BATCH", "1 2\nBATCH\n", 2, 1, "whole number", known=NO_COLUMN),
-        refused("add and remove as words", "add 2 3\n", 1, 1, "whole number", known=NO_COLUMN),
+        refused("a sign without a blank", "+1 2\n", 1, 1, "whole number"),
+        refused("BATCH", "1 2\nBATCH\n", 2, 1, "whole number"),
+        refused("add and remove as words", "add 2 3\n", 1, 1, "whole number"),
     ]
 
 
@@ -180,21 +177,19 @@ def byte_rows():
     if shutil.which("zstd"):
         packed.append(("zstd", subprocess.run(["zstd", "-c"], input=plain, capture_output=True, check=True).stdout, "zstdcat", ".zst"))
     rows = [
-        right("byte order mark (Excel, Notepad)", bom, PATH, known="the plain reading refuses it as no whole number, and nothing is to be seen on the line"),
+        right("byte order mark (Excel, Notepad)", bom, PATH),
         right("byte order mark (Excel, Notepad)", bom, PATH, "--columns", "1,2"),
         right("byte order mark and CSV", "\ufeff1,2\r\n2,3\r\n", PATH, name="graph.csv"),
-        refused("UTF-16 (PowerShell)", plain.decode().encode("utf-16"), 1, None, ("UTF-16", "iconv"),
-                known="told as no whole number; its first bytes are not looked at"),
-        refused("UTF-16 with a dialect", plain.decode().encode("utf-16"), 1, None, ("UTF-16", "iconv"), "--columns", "1,2", known="as above"),
-        refused("lines that end in CR alone", "1 2\r2 3\r", 1, 3, "CR", known="told as no whole number; a CR on the line is not looked for"),
+        refused("UTF-16 (PowerShell)", plain.decode().encode("utf-16"), 1, None, ("UTF-16", "iconv")),
+        refused("UTF-16 with a dialect", plain.decode().encode("utf-16"), 1, None, ("UTF-16", "iconv"), "--columns", "1,2"),
+        refused("lines that end in CR alone", "1 2\r2 3\r", 1, 3, "CR"),
         refused("CR alone behind a comment", "# a comment\r1 2\r2 3\r", 1, None, "CR",
                 known="all is one comment: an empty graph, without a word", silent=True),
         refused("CR alone, first two columns", "1 2 x\r2 3 y\r", 1, 6, "CR", "--columns", "1,2",
                 known="all is one line: the other edges are lost without a word", silent=True),
     ]
     for name, text, mend, ending in packed:
-        reason = f"told as no whole number; the first bytes of {name} are not looked at"
-        rows.append(refused(name, text, 1, None, (name, mend), name="graph.txt" + ending, known=reason))
+        rows.append(refused(name, text, 1, None, (name, mend), name="graph.txt" + ending))
         rows.append(right(f"{name} by {mend}", subprocess.run([mend], input=text, capture_output=True, check=True).stdout, PATH, by_pipe=True))
     return rows
 
@@ -203,18 +198,18 @@ def id_rows():
     """Ids that are no whole numbers below 2^32."""
     return [
         right("the greatest id", "4294967295 1\n", [(4294967295, 1)]),
-        refused("64-bit ids (Twitter)", "1 2\n2 9007199254740993\n", 2, 3, "4294967295", known=NO_COLUMN),
+        refused("64-bit ids (Twitter)", "1 2\n2 9007199254740993\n", 2, 3, "4294967295"),
         refused("64-bit ids in a CSV", "1,2\n2,9007199254740993\n", 2, 3, "4294967295", name="graph.csv"),
-        refused("ids of 21 digits (ego-Gplus)", "1 112188647432305746617\n", 1, 3, "4294967295", known=NO_COLUMN),
-        refused("names", "alice bob\nbob carol\n", 1, 1, "number the names", known="no --ids names, and no word of how names are numbered"),
-        refused("UUIDs", "1 0b5c9c1e-0d2b-4f6e-9a1f-2f0f3b7e9d11\n", 1, 3, "number the names", known="no --ids names, and no word of how names are numbered"),
-        refused("hexadecimal ids", "0x1 0x2\n", 1, 1, "whole number", known=NO_COLUMN),
-        refused("a negative id", "-1 2\n", 1, 1, "whole number", known=NO_COLUMN),
-        refused("comments of // ", "// a comment\n1 2\n2 3\n", 1, 1, "#", known=NO_COLUMN),
-        right("comments of // ", "// a comment\n1 2\n2 3\n", PATH, "--bad-lines", "skip", told=("line 1, column 1: ", "1 lines were passed over")),
-        refused("comments of ; ", "; a comment\n1 2\n2 3\n", 1, 1, "#", known=NO_COLUMN),
-        right("comments of ; ", "; a comment\n1 2\n2 3\n", PATH, "--bad-lines", "skip", told=("line 1, column 1: ", "1 lines were passed over")),
-        refused("a line of one id", "1 2\n3\n", 2, 2, "two ids", known=NO_COLUMN),
+        refused("ids of 21 digits (ego-Gplus)", "1 112188647432305746617\n", 1, 3, "4294967295"),
+        refused("names", "alice bob\nbob carol\n", 1, 1, "number the names"),
+        refused("UUIDs", "1 0b5c9c1e-0d2b-4f6e-9a1f-2f0f3b7e9d11\n", 1, 3, "number the names"),
+        refused("hexadecimal ids", "0x1 0x2\n", 1, 1, "whole number"),
+        refused("a negative id", "-1 2\n", 1, 1, "whole number"),
+        refused("comments of // ", "// a comment\n1 2\n2 3\n", 1, 1, "#"),
+        right("comments of // ", "// a comment\n1 2\n2 3\n", PATH, "--bad-lines", "skip", told=("line 1, column 1: ", "1 line was passed over")),
+        refused("comments of ; ", "; a comment\n1 2\n2 3\n", 1, 1, "#"),
+        right("comments of ; ", "; a comment\n1 2\n2 3\n", PATH, "--bad-lines", "skip", told=("line 1, column 1: ", "1 line was passed over")),
+        refused("a line of one id", "1 2\n3\n", 2, 2, "two ids"),
     ]
 
 
@@ -251,7 +246,9 @@ def missed_refusal(row, status, lines, told, front):
         return f"status {status}, {(lines + told)!r}"
     place = f"line {row.line}" + (f", column {row.column}: " if row.column else "")
     lacks = [word for word in (place, *row.mends) if word.lower() not in told.replace(front, "", 1).lower()]
-    fits = told.startswith(front) and told.count("\n") == 1 and not lacks
+    column = re.match(rf"line {row.line}, column ([0-9]+): ", told.replace(front, "", 1))
+    shown = fuzz_cores.shown_lines(row.text, row.line, int(column[1]) if column else None)
+    fits = told.startswith(front) and told.splitlines()[1:] == shown and not lacks
     return "" if fits else f"told {told.strip().replace(front, '')!r}, without {', '.join(map(repr, lacks))}"
 
 
@@ -261,11 +258,10 @@ def missed(row, ended, front):
 
 
 def missed_beside(row, ended, front):
-    """What is not met of a known row beside what is known: it is refused at its line, with the words that mend where but the column lacks."""
+    """What is not met of a known row beside what is known: it is refused at its line."""
     if row.silent or not row.known or row.line is None:
         return ""
-    mends = row.mends if row.known == NO_COLUMN else ()
-    return missed(dataclasses.replace(row, column=None, mends=mends), ended, front)
+    return missed(dataclasses.replace(row, column=None, mends=()), ended, front)
 
 
 def run_row(program, row, place):

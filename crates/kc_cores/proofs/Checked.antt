@@ -60,8 +60,8 @@ module _ {I C O : Type 0} (source : sources.Ghosts I) (behind : I → List ℕ �
     faults = inl rose;
     write_faults = refl;
   }
-  no_graph name graph status.Refused line i i' c c' o (placed, told, means, stays) same = record {
-    did = (inl (placed, told, means), Appends-nil (out.taken o));
+  no_graph name graph status.Refused line i i' c c' o (refusal, told, means, stays) same = record {
+    did = (inl (refusal, told, means), Appends-nil (out.taken o));
     faults = (stays, same);
     write_faults = refl;
   }

@@ -74,10 +74,10 @@ complete-of status.Certified query known before after line bytes told right took
 complete-of status.Uncertified query known before after line bytes told right took says here means = absurd took
 complete-of status.Usage query known before after line bytes told right took says here means = absurd (right refl)
 complete-of status.Shown query known before after line bytes told right (text, reply, took) says here means = absurd reply
-complete-of status.Refused query known before after line bytes told right took (asked, placed, same, is, refuses) here means =
+complete-of status.Refused query known before after line bytes told right took (asked, refusal, same, is, refuses) here means =
     let q : query ≡ asked = asked-same query asked same in
-    let refused = of_known (λ b. IsRefusedBy asked.graph.dialect b placed) known bytes here refuses in
-    absurd (clash query.graph.dialect bytes told placed.refusal.line placed.refusal.kind means
+    let refused = of_known (λ b. IsRefusedBy asked.graph.dialect b refusal) known bytes here refuses in
+    absurd (clash query.graph.dialect bytes told refusal.placed.refusal.line refusal.placed.refusal.kind means
     (ap (λ (x : Query). graph_meaning x.graph.dialect bytes) q ∙ refused.0))
 
 -- the graph of the bytes that were read has these lines and this summary
@@ -205,13 +205,13 @@ module _ {I O : Type 0} (source : sources.Ghosts I) (behind : I → List ℕ →
         write_faults = refl;
         reader = tt;
       })
-  CoresEnded-no_graph query status.Refused line i i' o (placed, is, means, kept) =
+  CoresEnded-no_graph query status.Refused line i i' o (refusal, is, means, kept) =
       CoresEnded-asks query status.Refused line i i' o o (record {
         right = λ e. absurd (cc);
         asked = λ e. absurd (cc);
         read = λ e. absurd (cc);
         took = Appends-nil (out.taken o);
-        says = (query, placed, refl, is, means);
+        says = (query, refusal, refl, is, means);
         faults = kept;
         write_faults = refl;
         reader = tt;

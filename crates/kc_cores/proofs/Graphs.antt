@@ -6,6 +6,7 @@ use Rattle.kc_text.specs.Inputs.{AreIds, IsNamedEdges, start_graph}
 use Rattle.kc_text.specs.Meaning.{Meaning, Told, meaning, names}
 use Rattle.kc_text.specs.declared.limits.TheConstants.Limits.{GRAPH}
 use Rattle.kc_text.specs.declared.named_edges.NamedEdges.{NamedEdges}
+use Rattle.kc_dialect.specs.Dialects.{without_mark}
 use Rattle.kc_dialect.specs.Skipped.{AreSkipped}
 use Rattle.kc_dialect.specs.declared.dialect.Dialect.{Dialect}
 use Rattle.kc_dialect.specs.declared.skipped.SkippedLines.{SkippedLines}
@@ -15,8 +16,8 @@ use Rattle.kc_read.proofs.StartGraphs.{size-start_graph}
 use Rattle.kc_cores.specs.Answers.{graph_meaning, passed_over}
 use Rattle.kc_cores.specs.Inputs.{AreReadFrom, IsGraphOf}
 
--- what the bytes mean within the limits of a graph is what the text of a graph means
-pub graph_meaning-is : (bytes : List ℕ) (m : Meaning) → meaning GRAPH bytes ≡ m → graph_meaning None bytes ≡ m
+-- what the bytes mean within the limits of a graph, behind a mark, is what the text of a graph means
+pub graph_meaning-is : (bytes : List ℕ) (m : Meaning) → meaning GRAPH (without_mark bytes) ≡ m → graph_meaning None bytes ≡ m
 unfolding graph_meaning
 graph_meaning-is bytes m is = is
 

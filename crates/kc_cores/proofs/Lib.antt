@@ -3,6 +3,7 @@ pub mod Claiming
 pub mod Ended
 pub mod Graphs
 pub mod Listed
+pub mod Looked
 pub mod Placing
 pub mod Replies
 pub mod Sizing

@@ -2,41 +2,46 @@
 use Rattle.std.specs.Prelude.{◌≡◌, ◌+◌, ◌++◌, ◌&&◌, ◌==◌, ℕ, Bool, List, [], ◌∷◌, Option, None, Some, codes, decimal, filter, length, nat_le, unwrap_or}
 use Rattle.std.specs.FinSet as set
 use Rattle.std.specs.List.{flat_map}
-use Rattle.kc_dialect.specs.Dialects.{bad_lines}
+use Rattle.kc_dialect.specs.Dialects.{bad_lines, without_mark}
 use Rattle.kc_dialect.specs.declared.bad_line.BadLine.{BadLine}
 use Rattle.kc_dialect.specs.declared.dialect.Dialect.{Dialect}
 use Rattle.kc_dialect_read.specs.Meanings.{bad_column, dialect_meaning}
-use Rattle.kc_dialect_read.specs.declared.fault.PlacedRefusal.{PlacedRefusal}
 use Rattle.kc_flat.specs.Listing.{ascending_below, edge_list}
 use Rattle.kc_graph.specs.Certificate.{Certifies}
 use Rattle.kc_graph.specs.Core.{AreCoreNumbers, greatest}
 use Rattle.kc_graph.specs.Peeling.{at}
 use Rattle.kc_graph.specs.SimpleGraph.{SimpleGraph}
+use Rattle.kc_head.specs.Heads.{head_of}
+use Rattle.kc_head.specs.Places.{wrong_column}
 use Rattle.kc_text.specs.Inputs.{AreIds, start_graph}
 use Rattle.kc_text.specs.Meaning.{Means, Meaning, Refuses, Told, meaning, names}
 use Rattle.kc_text.specs.declared.limits.TheConstants.Limits.{GRAPH}
+use Rattle.kc_text.specs.declared.refusal.Refusal.{Refusal}
 use Rattle.kc_tally.specs.Layers.{AreLayers}
 use Rattle.kc_lines.specs.declared.format.Format.{Format}
 use Rattle.kc_cores.specs.Lines.{counts_line, edge_line, layer_line, member_line, number_line}
+use Rattle.kc_cores.specs.Sentences.{GraphRefusal}
 use Rattle.kc_cores.specs.Skips.{skipped_report}
 use Rattle.kc_cores.specs.Wishes.{Query}
 use Rattle.kc_cores.specs.declared.request.Task.{Task}
 use Rattle.kc_cores.specs.declared.request.Task.TheVariants.{Numbers, Sizes, Members, Edges, Layers, Order}
 
--- What the text of a graph means, in a dialect if it is in one: there may be no batch line, and all else may be as much as numbers count.
+-- What the text of a graph means, in a dialect if it is in one: there may be no batch line, and all else may be as much as numbers count. A
+-- byte order mark at its front is no part of it.
 unfoldable pub graph_meaning : Option Dialect → List ℕ → Meaning
-graph_meaning None bytes = meaning GRAPH bytes
+graph_meaning None bytes = meaning GRAPH (without_mark bytes)
 graph_meaning (Some dialect) bytes = dialect_meaning dialect bytes
 
--- in which column a text is refused, where one is meant
-abbrev pub refused_column : Option Dialect → List ℕ → Option ℕ
-refused_column None bytes = None
-refused_column (Some dialect) bytes = bad_column dialect bytes
+-- in which column a text is refused, where one is meant; of a text in no dialect, where the line stands in its head
+abbrev pub refused_column : Option Dialect → List ℕ → Refusal → Option ℕ
+refused_column None bytes refusal = wrong_column (head_of bytes) refusal
+refused_column (Some dialect) bytes refusal = bad_column dialect bytes
 
--- the text of a graph is refused, with this line, column and cause
-abbrev pub IsRefusedBy : Option Dialect → List ℕ → PlacedRefusal → Type 0
-IsRefusedBy dialect bytes placed =
-    (graph_meaning dialect bytes ≡ Refuses placed.refusal.line placed.refusal.kind) × (placed.column ≡ refused_column dialect bytes)
+-- the text of a graph is refused, with this line, column and cause, and this is its head
+abbrev pub IsRefusedBy : Option Dialect → List ℕ → GraphRefusal → Type 0
+IsRefusedBy dialect bytes refusal =
+    (graph_meaning dialect bytes ≡ Refuses refusal.placed.refusal.line refusal.placed.refusal.kind)
+    × (refusal.placed.column ≡ refused_column dialect bytes refusal.placed.refusal) × (refusal.head ≡ head_of bytes)
 
 -- the bad lines of a text in a dialect, if it is in one
 abbrev pub passed_over : Option Dialect → List ℕ → List BadLine

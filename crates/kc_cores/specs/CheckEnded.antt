@@ -7,7 +7,6 @@ use Rattle.kc_io.specs.declared.source.Source as sources
 use Rattle.kc_wire.specs.declared.wire.Wire as wires
 use Rattle.kc_dialect.specs.declared.dialect.Dialect.{Dialect}
 use Rattle.kc_dialect.specs.declared.skipped.SkippedLines.{SkippedLines}
-use Rattle.kc_dialect_read.specs.declared.fault.PlacedRefusal.{PlacedRefusal}
 use Rattle.kc_graph.specs.SimpleGraph.{SimpleGraph}
 use Rattle.kc_text.specs.declared.kind.Kind.TheVariants.{TooLong}
 use Rattle.kc_text.specs.declared.limits.TheConstants.Limits.{GRAPH}
@@ -19,7 +18,7 @@ use Rattle.kc_claims.specs.declared.fault.ClaimFault.{ClaimFault}
 use Rattle.kc_cores.specs.Answers.{IsRefusedBy}
 use Rattle.kc_cores.specs.CoresEnded.{CoresEnded, IsUnopenedLine, WriteFaultsAt}
 use Rattle.kc_cores.specs.Inputs.{IsGraphOf, known_bytes}
-use Rattle.kc_cores.specs.Sentences.{no_memory_line, read_fault_line, refused_line, write_fault_line}
+use Rattle.kc_cores.specs.Sentences.{GraphRefusal, no_memory_line, read_fault_line, refused_line, write_fault_line}
 use Rattle.kc_cores.specs.Verdicts.{claim_refused_line, fault_line, no_line, yes_line}
 use Rattle.kc_watch.specs.declared.options.WatchOptions.{WatchOptions}
 use Rattle.kc_cores.specs.WatchEnded.{WatchEnded}
@@ -64,7 +63,7 @@ IsVerdictOn dialect known certificate text =
 -- why a line is refused: one of the graph, or one of the certificate
 abbrev pub IsRefusedLine : List ℕ → GraphText → Option (List ℕ) → Option (List ℕ) → List ℕ → Type 0
 IsRefusedLine name graph known certificate line =
-    ((placed : PlacedRefusal) × (line ≡ refused_line graph.file placed) × IfSome known (λ bytes. IsRefusedBy graph.dialect bytes placed))
+    ((refusal : GraphRefusal) × (line ≡ refused_line graph refusal) × IfSome known (λ bytes. IsRefusedBy graph.dialect bytes refusal))
     ⊎ ((refusal : Refusal) × (line ≡ claim_refused_line name refusal) × IfSome certificate (λ text. certificate_meaning text ≡ Err refusal))
 
 -- At each status what was found, what the sink took, and what is told. `name` is that of the certificate, and `known` and `certificate` are the

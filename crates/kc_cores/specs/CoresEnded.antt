@@ -8,10 +8,9 @@ use Rattle.kc_io.specs.declared.source.Source as sources
 use Rattle.kc_text.specs.declared.kind.Kind.{Kind}
 use Rattle.kc_text.specs.Meaning.{Means, Refuses, Told}
 use Rattle.clap.specs.Kinds.{Kinds}
-use Rattle.kc_dialect_read.specs.declared.fault.PlacedRefusal.{PlacedRefusal}
 use Rattle.kc_cores.specs.Answers.{IsRefusedBy, IsTextFor, graph_meaning}
 use Rattle.kc_cores.specs.Inputs.{known_bytes}
-use Rattle.kc_cores.specs.Sentences.{no_memory_line, read_fault_line, refused_line, unopened_line, unopened_short_line, write_fault_line}
+use Rattle.kc_cores.specs.Sentences.{GraphRefusal, no_memory_line, read_fault_line, refused_line, unopened_line, unopened_short_line, write_fault_line}
 use Rattle.kc_cores.specs.Wishes.{Asks, Checks, MayReply, Query, Replies, Watches, Wish}
 use Rattle.kc_cores.specs.declared.CoresStatus.{CoresStatus}
 use Rattle.kc_cores.specs.declared.CoresStatus.TheVariants as status
@@ -122,8 +121,8 @@ IsLineAt status.Done wish known line =
 IsLineAt status.Shown wish known line = line ≡ []
 IsLineAt status.Usage wish known line = ⊤
 IsLineAt status.Refused wish known line =
-    (query : Query) × (placed : PlacedRefusal) × (wish ≡ Asks query) × (line ≡ refused_line query.graph.file placed)
-    × IfSome known (λ bytes. IsRefusedBy query.graph.dialect bytes placed)
+    (query : Query) × (refusal : GraphRefusal) × (wish ≡ Asks query) × (line ≡ refused_line query.graph refusal)
+    × IfSome known (λ bytes. IsRefusedBy query.graph.dialect bytes refusal)
 IsLineAt status.Unopened wish known line =
     (query : Query) × (name : List ℕ) × (fault : FileFault) × (wish ≡ Asks query) × (query.graph.file ≡ Some name) × IsUnopenedLine name fault line
 IsLineAt status.ReadFault wish known line = line ≡ read_fault_line

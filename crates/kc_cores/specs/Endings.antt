@@ -6,11 +6,10 @@ use Rattle.clap.specs.declared.error.kind.ErrorKind.{ErrorKind}
 use Rattle.kc_text.specs.declared.refusal.Refusal.{Refusal}
 use Rattle.kc_claims.specs.declared.claim.Claim.{Claim}
 use Rattle.kc_claims.specs.declared.fault.ClaimFault.{ClaimFault}
-use Rattle.kc_dialect_read.specs.declared.fault.PlacedRefusal.{PlacedRefusal}
 use Rattle.kc_cores.specs.Answers.{IsRefusedBy}
 use Rattle.kc_cores.specs.CheckEnded.{certificate_meaning}
 use Rattle.kc_cores.specs.CoresEnded.{IsUnopenedLine}
-use Rattle.kc_cores.specs.Sentences.{no_memory_line, read_fault_line, refused_line, write_fault_line}
+use Rattle.kc_cores.specs.Sentences.{GraphRefusal, no_memory_line, read_fault_line, refused_line, write_fault_line}
 use Rattle.kc_cores.specs.Verdicts.{claim_refused_line, fault_line, no_line}
 use Rattle.kc_cores.specs.Wishes.{Asks, Checks, GraphText, MayReply, Query, Watches, Wish, is_shown}
 use Rattle.kc_cores.specs.declared.CoresStatus.{CoresStatus}
@@ -18,7 +17,7 @@ use Rattle.kc_cores.specs.declared.CoresStatus.TheVariants as status
 use Rattle.kc_cores.specs.declared.ending.Ending.{Ending}
 use Rattle.kc_cores.specs.declared.input.FileFault.{FileFault}
 use Rattle.kc_cores.specs.declared.message.Message.{Message}
-use Rattle.kc_cores.specs.declared.message.Message.TheVariants.{Fixed, Made}
+use Rattle.kc_cores.specs.declared.message.Message.TheVariants.{Bytes, Fixed, Made}
 use Rattle.kc_cores.specs.declared.request.NamedText.{NamedText}
 use Rattle.kc_cores.specs.declared.request.Request.{Request}
 use Rattle.kc_cores.specs.declared.request.Wanted.{Wanted}
@@ -30,25 +29,26 @@ use Rattle.kc_cores.specs.declared.words.Reply.TheVariants as reply
 abbrev pub message_text : Message → List ℕ
 message_text (Fixed text) = text.now
 message_text (Made text) = string_bytes text
+message_text (Bytes text) = text.items
 
 -- the line about a run that ends here
 abbrev pub line_of : Ending → List ℕ
 line_of ending = message_text ending.message
 
 -- a refusal with its line, or want of memory for it
-abbrev pub RefusalAt : CoresStatus → List ℕ → Option (List ℕ) → PlacedRefusal → Type 0
-RefusalAt status.Refused line file placed = line ≡ refused_line file placed
-RefusalAt status.NoMemory line file placed = line ≡ no_memory_line
-RefusalAt _ line file placed = ⊥
+abbrev pub RefusalAt : CoresStatus → List ℕ → GraphText → GraphRefusal → Type 0
+RefusalAt status.Refused line graph refusal = line ≡ refused_line graph refusal
+RefusalAt status.NoMemory line graph refusal = line ≡ no_memory_line
+RefusalAt _ line graph refusal = ⊥
 
--- the run ends by this refusal of the text of a file, or of standard input
-abbrev pub TellsRefusal : Ending → Option (List ℕ) → PlacedRefusal → Type 0
-TellsRefusal ending file placed = RefusalAt ending.status (line_of ending) file placed
+-- the run ends by this refusal of the text of a graph
+abbrev pub TellsRefusal : Ending → GraphText → GraphRefusal → Type 0
+TellsRefusal ending graph refusal = RefusalAt ending.status (line_of ending) graph refusal
 
 -- Why an input gives no graph, where `known` are its bytes if they are known. Its count of faults rose at a read fault alone.
 abbrev pub NoGraphAt : CoresStatus → List ℕ → GraphText → Option (List ℕ) → ℕ → ℕ → Type 0
 NoGraphAt status.Refused line graph known before after =
-    (placed : PlacedRefusal) × (line ≡ refused_line graph.file placed) × IfSome known (λ bytes. IsRefusedBy graph.dialect bytes placed) × (after ≡ before)
+    (refusal : GraphRefusal) × (line ≡ refused_line graph refusal) × IfSome known (λ bytes. IsRefusedBy graph.dialect bytes refusal) × (after ≡ before)
 NoGraphAt status.ReadFault line graph known before after = (line ≡ read_fault_line) × Rose before after
 NoGraphAt status.NoMemory line graph known before after = (line ≡ no_memory_line) × (after ≡ before)
 NoGraphAt _ line graph known before after = ⊥

@@ -1,15 +1,17 @@
 -- Inputs, and the graphs that are read from them.
-use Rattle.std.specs.Prelude.{◌≡◌, ◌<◌, ◌^◌, ℕ, List, Option, None, Some, All, IfSome, length, option_and_then, if◌then◌else◌}
+use Rattle.std.specs.Prelude.{◌≡◌, ◌<◌, ◌^◌, ℕ, List, [], Option, None, Some, All, IfSome, length, option_and_then, if◌then◌else◌}
 use Rattle.std.specs.Str.{bytes_eq}
 use Rattle.kc_graph.specs.SimpleGraph.{SimpleGraph}
 use Rattle.kc_io.specs.Memory.{SourceState}
 use Rattle.kc_text.specs.Inputs.{AreIds, IsNamedEdges, start_graph}
 use Rattle.kc_text.specs.Meaning.{Means, Told, names}
 use Rattle.kc_text.specs.declared.named_edges.NamedEdges.{NamedEdges}
+use Rattle.kc_dialect.specs.Dialects.{without_mark}
 use Rattle.kc_dialect.specs.Skipped.{AreSkipped}
 use Rattle.kc_dialect.specs.declared.dialect.Dialect.{Dialect}
 use Rattle.kc_dialect.specs.declared.skipped.SkippedLines.{SkippedLines}
 use Rattle.kc_dialect_read.specs.declared.plain_reader.DialectEdges.{DialectEdges}
+use Rattle.kc_head.specs.Heads.{head_of}
 use Rattle.kc_cores.specs.Answers.{graph_meaning, passed_over}
 
 -- what is known of bytes that are not told
@@ -43,6 +45,20 @@ known_bytes left behind (Some name) i = behind i name
 -- the bytes of an input in memory that is turned to a file, or not
 abbrev pub bytes_in : InputState → Option (List ℕ) → Option (List ℕ)
 bytes_in input file = known_bytes (λ i. Some i.source.left) bytes_behind file input
+
+-- the bytes that are read before what an input has left, if there are any
+abbrev pub front_bytes : Option (List ℕ) → List ℕ
+front_bytes None = []
+front_bytes (Some bytes) = bytes
+
+-- what is read of the bytes of a text: where it is in no dialect, all but a byte order mark at its front
+abbrev pub text_bytes : Option Dialect → List ℕ → List ℕ
+text_bytes None bytes = without_mark bytes
+text_bytes (Some dialect) bytes = bytes
+
+-- an input whose bytes were these, where they are known, has left what is to be read of them, and this is their head
+abbrev pub IsLookedAt : Option Dialect → Option (List ℕ) → Option (List ℕ) → List ℕ → Type 0
+IsLookedAt dialect known left head = IfSome known (λ all. (head ≡ head_of all) × (left ≡ Some (text_bytes dialect all)))
 
 -- so many ids that each has a number, and edges between these numbers
 pub record HasFewIds (listed : NamedEdges) : Type 0 where

@@ -1,19 +1,29 @@
 -- The lines that a run writes about itself.
-use Rattle.std.specs.Prelude.{ℕ, zero, suc, List, [], ◌∷◌, ◌++◌, Option, None, Some, codes}
+use Rattle.std.specs.Prelude.{◌==◌, ℕ, zero, suc, List, [], ◌∷◌, ◌++◌, Option, None, Some, codes, if◌then◌else◌}
 use Rattle.std.specs.Fmt.{decimal}
 use Rattle.kc_text.specs.declared.kind.Kind.{Kind}
 use Rattle.kc_text.specs.declared.kind.Kind.TheVariants.{NotANumber, MissingField, ExtraField, NumberTooLarge, LoopInBatch, UpdateOutsideBatch}
 use Rattle.kc_text.specs.declared.kind.Kind.TheVariants.{EdgeLineInBatch, TooManyVertices, TooManyEdgeLines, TooManyUpdates, TooManyBatches, TooLong}
 use Rattle.kc_text.specs.declared.refusal.Refusal.{Refusal}
+use Rattle.kc_dialect.specs.declared.dialect.Dialect.{Dialect}
+use Rattle.kc_dialect.specs.declared.signatures.Signature.{Signature}
+use Rattle.kc_dialect.specs.declared.signatures.Signature.TheVariants.{Gzip, Bzip2, Xz, Zstd, Utf16Le, Utf16Be, MatrixMarket}
 use Rattle.kc_dialect_read.specs.declared.fault.PlacedRefusal.{PlacedRefusal}
+use Rattle.kc_head.specs.Foreign.{foreign_in}
+use Rattle.kc_head.specs.Shown.{shown_place}
+use Rattle.kc_head.specs.declared.foreign.Foreign.{Foreign}
+use Rattle.kc_head.specs.declared.foreign.Foreign.TheVariants.{BareReturns, Marked}
+use Rattle.kc_cores.specs.Wishes.{GraphText}
 use Rattle.kc_cores.specs.declared.input.FileFault.{FileFault}
 use Rattle.kc_cores.specs.declared.input.FileFault.TheVariants.{Missing, Folder, Forbidden, Other}
 
 -- what was found wrong with a line, and how it is mended
 abbrev pub sentence_of : Kind → List ℕ
-sentence_of NotANumber = codes "a field is not a whole number; write two ids of decimal digits, begin a comment with #, or see --separator, --columns and --skip"
+sentence_of NotANumber =
+    codes "a field is not a whole number; number the names of the vertices, begin a comment with #, or see --separator, --columns and --skip"
 sentence_of MissingField = codes "the second id is missing; write two ids with a blank or a tab between them, or name what parts them by --separator"
-sentence_of ExtraField = codes "there are more than two fields; name the columns of the two ids, as by --columns 1,2"
+sentence_of ExtraField =
+    codes "there are more than two fields; name the columns of the two ids, as by --columns 1,2, or write an adjacency list as edges, one a line"
 sentence_of NumberTooLarge = codes "an id is greater than 4294967295; number the vertices anew with smaller ids"
 sentence_of LoopInBatch = codes "a change names one id twice; remove the line"
 sentence_of UpdateOutsideBatch = codes "this is a change of a graph; cores takes edges alone, and kcore takes changes after a line batch"
@@ -31,14 +41,47 @@ at_line (suc n) = codes "line " ++ decimal (suc n)
 
 -- what was found wrong in a column of a dialect, and how it is mended
 abbrev pub column_sentence : Kind → List ℕ
-column_sentence NotANumber = codes "the field is not a whole number; pass over a head by --skip, bad lines by --bad-lines skip, or name other columns by --columns"
-column_sentence MissingField = codes "a column is missing; name the columns of the two ids by --columns, what parts them by --separator, or see --bad-lines skip"
+column_sentence NotANumber =
+    codes "the field is not a whole number; pass over a head by --skip, bad lines by --bad-lines skip, or see --separator and --columns"
+column_sentence MissingField =
+    codes "a column is missing; name the columns of the two ids by --columns, what parts them by --separator, or see --bad-lines skip"
 column_sentence kind = sentence_of kind
 
--- the same, where a column is meant or none
-abbrev pub placed_sentence : Option ℕ → Kind → List ℕ
-placed_sentence None kind = sentence_of kind
-placed_sentence (Some column) kind = column_sentence kind
+-- the same of a text that is in a dialect, or in none
+abbrev pub text_sentence : Option Dialect → Kind → List ℕ
+text_sentence None kind = sentence_of kind
+text_sentence (Some dialect) kind = column_sentence kind
+
+-- what is told of a file of another format, and how edges are made of it
+abbrev pub format_sentence : Signature → List ℕ
+format_sentence Gzip = codes "this is gzip; unpack it, as by zcat FILE | cores numbers"
+format_sentence Bzip2 = codes "this is bzip2; unpack it, as by bzcat FILE | cores numbers"
+format_sentence Xz = codes "this is xz; unpack it, as by xzcat FILE | cores numbers"
+format_sentence Zstd = codes "this is zstd; unpack it, as by zstdcat FILE | cores numbers"
+format_sentence Utf16Le = codes "this is UTF-16; make it UTF-8, as by iconv -f UTF-16 -t UTF-8 FILE | cores numbers"
+format_sentence Utf16Be = codes "this is UTF-16; make it UTF-8, as by iconv -f UTF-16 -t UTF-8 FILE | cores numbers"
+format_sentence MatrixMarket =
+    codes "this is MatrixMarket; pass over its lines up to that of the sizes by --skip, and name the columns of the two ids by --columns 1,2"
+
+-- what is told of a text that is no lines of a graph, and how edges are made of it
+abbrev pub foreign_sentence : Foreign → List ℕ
+foreign_sentence (Marked signature) = format_sentence signature
+foreign_sentence BareReturns = codes "the lines end in CR alone; make them newlines, as by tr '\\r' '\\n' < FILE | cores numbers"
+
+-- what a text is that is no lines of a graph, as its head tells; where lines at the top are passed over, that is not asked
+abbrev pub foreign : Option Dialect → List ℕ → Option Foreign
+foreign None head = foreign_in head
+foreign (Some dialect) head = if dialect.skip == 0 then foreign_in head else None
+
+-- the sentence for a text that is no lines of a graph, or else for a line of it
+abbrev pub sentence_for : Option Foreign → Option Dialect → Kind → List ℕ
+sentence_for (Some what) dialect kind = foreign_sentence what
+sentence_for None dialect kind = text_sentence dialect kind
+
+-- Why the text of a graph is refused, and the head of the text.
+pub record GraphRefusal : Type 0 where
+  pub placed : PlacedRefusal
+  pub head : List ℕ
 
 -- `, column 5`
 abbrev pub at_column : Option ℕ → List ℕ
@@ -50,11 +93,20 @@ abbrev pub in_file : Option (List ℕ) → List ℕ
 in_file None = []
 in_file (Some name) = name ++ codes ": "
 
+-- `line 12, column 5`
+abbrev pub at_place : PlacedRefusal → List ℕ
+at_place placed = at_line placed.refusal.line ++ at_column placed.column
+
 -- `cores: FILE: line 12, column 5: SENTENCE`
-abbrev pub refused_line : Option (List ℕ) → PlacedRefusal → List ℕ
-refused_line file placed =
-    codes "cores: " ++ (in_file file ++ ((at_line placed.refusal.line ++ at_column placed.column) ++ (codes ": "
-    ++ (placed_sentence placed.column placed.refusal.kind ++ 10 ∷ []))))
+abbrev pub refused_front : GraphText → GraphRefusal → List ℕ
+refused_front graph refusal =
+    codes "cores: " ++ (in_file graph.file ++ (at_place refusal.placed ++ (codes ": "
+    ++ (sentence_for (foreign graph.dialect refusal.head) graph.dialect refusal.placed.refusal.kind ++ 10 ∷ []))))
+
+-- that line, and below it the refused line with a caret under the column, where one is meant and the line stands in the head of the text
+abbrev pub refused_line : GraphText → GraphRefusal → List ℕ
+refused_line graph refusal =
+    refused_front graph refusal ++ shown_place refusal.head refusal.placed.refusal.line refusal.placed.column
 
 -- what was found wrong with a line of a stream, and how it is mended
 abbrev pub stream_sentence : Kind → List ℕ

@@ -20,9 +20,13 @@ skipped_line file bad =
     codes "cores: " ++ (in_file file ++ (codes "line " ++ (decimal bad.line ++ (codes ", column " ++ (decimal bad.column ++ (codes ": "
     ++ (skip_sentence bad.kind ++ codes "; the line was passed over\n")))))))
 
+-- `1 line was`, or `17 lines were`
+abbrev pub lines_were : ℕ → List ℕ
+lines_were count = if count == 1 then codes "1 line was" else decimal count ++ codes " lines were"
+
 -- `cores: FILE: 17 lines were passed over`
 abbrev pub skipped_count : Option (List ℕ) → ℕ → List ℕ
-skipped_count file count = codes "cores: " ++ (in_file file ++ (decimal count ++ codes " lines were passed over\n"))
+skipped_count file count = codes "cores: " ++ (in_file file ++ (lines_were count ++ codes " passed over\n"))
 
 -- the first lines that were passed over, and how many they are, where there are any
 abbrev pub told_skips : Option (List ℕ) → ℕ → List BadLine → List ℕ

@@ -1,6 +1,6 @@
 -- What the words of a run ask for.
-use Rattle.std.specs.Prelude.{◌≡◌, ◌==◌, ◌^◌, ◌&&◌, ℕ, Bool, true, false, List, [], ◌∷◌, Option, Some, None, codes, length, nat_lt, option_map, pos}
-use Rattle.std.specs.Prelude.{if◌then◌else◌}
+use Rattle.std.specs.Prelude.{◌≡◌, ◌==◌, ◌^◌, ◌&&◌, ℕ, Bool, true, false, not, List, [], ◌∷◌, Option, Some, None, codes, length, nat_eq, nat_lt}
+use Rattle.std.specs.Prelude.{option_map, pos, if◌then◌else◌}
 use Rattle.std.specs.Char.{digit_value}
 use Rattle.std.specs.List.{after_first, before_first, list_all, position_or_len}
 use Rattle.std.specs.Str.Parse.{digits_value, without_leading_plus}
@@ -192,11 +192,11 @@ file_named (Some name) = if bytes_eq name (codes "-") then None else Some name
 abbrev pub is_comma : ℕ → Bool
 is_comma b = b == 44
 
--- two columns, which are numbers from 1 on
+-- two columns, which are different numbers from 1 on
 abbrev pub both_columns : Option ℕ → Option ℕ → Option (ℕ × ℕ)
 both_columns None b = None
 both_columns (Some a) None = None
-both_columns (Some a) (Some b) = if nat_lt 0 a && nat_lt 0 b then Some (a, b) else None
+both_columns (Some a) (Some b) = if nat_lt 0 a && nat_lt 0 b && not (nat_eq a b) then Some (a, b) else None
 
 -- the two columns that a text names, with a comma between them
 abbrev pub columns_of : Text → Option (ℕ × ℕ)

@@ -181,7 +181,8 @@ fn work<W: AsStr, I: FileInput, C: FileInput, O: PipeSink, E, L: Wire>(
 ///   text. At `ReaderGone` and at `WriteFault` it took a prefix of what was to be written, and else nothing.
 /// - `line`: the line of the status. At `Done` it is the summary of that graph, behind what is told of bad lines that were passed over, or
 ///   nothing where the words ask for a quiet run. At `Refused` it tells the file, the line, the column where one is meant, and the kind of
-///   the refusal, and at `Unopened` the name of the file and why it was not opened. At `ReaderGone` there is none.
+///   the refusal, or what the text is that is no edge list; below it the line of the text is shown with a caret under the column. At
+///   `Unopened` it tells the name of the file and why it was not opened. At `ReaderGone` there is none.
 /// - `faults`: the input's count of faults rose at `Unopened` and at `ReadFault`, and else it is as it was.
 /// - `write_faults`: the count of faults of `out` rose at `ReaderGone` and at `WriteFault`, and else it is as it was.
 /// - `reader`: at `ReaderGone` the sink tells that its reader went away, and at `WriteFault` that it did not.

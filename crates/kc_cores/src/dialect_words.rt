@@ -80,12 +80,12 @@ pub(crate) fn number_of(text: &str) -> Option<u32>
     text.parse::<u32>().ok()
 }
 
-/// Two columns, which are numbers from 1 on.
+/// Two columns, which are different numbers from 1 on.
 fn both_columns(first: Option<u32>, second: Option<u32>) -> Option<(u32, u32)>
     ensures { result ≡ both_columns first second }
 {
     let (first, second) = (first?, second?);
-    if first > 0 && second > 0 {
+    if first > 0 && second > 0 && first != second {
         Some((first, second))
     } else {
         None

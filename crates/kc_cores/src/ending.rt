@@ -1,17 +1,19 @@
 //! How a run ends: its status, and the line about it.
 ghost use Rattle.std.specs.Prelude.{◌≡◌, ◌++◌, [], IfOk, option_map, string_bytes};
-ghost use Rattle.kc_cores.specs.Endings.{IsCut, TellsRefusal, line_of};
-ghost use Rattle.kc_cores.specs.Sentences.{at_column, at_line, in_file, refused_line, no_memory_line, read_fault_line, unopened_line, write_fault_line};
+ghost use Rattle.kc_cores.specs.Endings.{IsCut, TellsRefusal, line_of, text_of};
+ghost use Rattle.kc_cores.specs.Sentences.{at_column, at_place, in_file, refused_front, refused_line, no_memory_line, read_fault_line};
+ghost use Rattle.kc_cores.specs.Sentences.{unopened_line, write_fault_line};
 ghost use Rattle.kc_cores.specs.CoresEnded.{IsUnopenedLine, ToldLine};
 
 use crate::CoresStatus;
 use crate::input::FileFault;
 use crate::message::Message;
-use crate::sentences::placed_sentence;
+use crate::request::NamedText;
+use crate::sentences::refusal_sentence;
 use kc_dialect_read::PlacedRefusal;
 use kc_graph::NoMemory;
+use kc_head::show_place;
 use kc_io::sink::{Sink, write_all};
-use kc_text::Refusal;
 use std::alloc::Global;
 
 /// How a run ends. The line is made here, so that ending the run takes no memory.
@@ -110,10 +112,11 @@ fn at_column(alloc: Global, column: Option<u64>) -> Result<String, NoMemory>
 }
 
 /// Which line is refused, or the input as a whole, and the column where one is meant.
-fn at_place(alloc: Global, line: u64, column: Option<u64>) -> Result<String, NoMemory>
-    ensures { IfOk result (λ text. string_bytes text ≡ at_line line ++ at_column column) }
+fn at_place(alloc: Global, placed: PlacedRefusal) -> Result<String, NoMemory>
+    ensures { IfOk result (λ text. string_bytes text ≡ at_place placed) }
 {
-    let place = at_column(alloc, column)?;
+    let place = at_column(alloc, placed.column)?;
+    let line = placed.refusal.line;
     if line == 0 {
         format!(in alloc; "input{place}")
     } else {
@@ -121,28 +124,49 @@ fn at_place(alloc: Global, line: u64, column: Option<u64>) -> Result<String, NoM
     }
 }
 
-fn refused_line(
+/// Where a text with this head is refused, and what is wrong there.
+fn refused_front(
     alloc: Global,
-    file: Option<&str>,
+    text: NamedText<'_>,
     placed: PlacedRefusal,
+    head: &[u8],
 ) -> Result<String, NoMemory>
-    ensures { IfOk result (λ line. string_bytes line ≡ refused_line (option_map (λ t. t.now) file.entry) placed) }
+    ensures { IfOk result (λ line. string_bytes line ≡ refused_front (text_of text.entry) (record { placed = placed; head = head.now })) }
 {
-    let Refusal { line, kind } = placed.refusal;
-    let sentence = placed_sentence(placed.column, kind);
-    let front = in_file(alloc, file)?;
-    let place = at_place(alloc, line, placed.column)?;
+    let sentence = refusal_sentence(text.dialect, head, placed.refusal.kind);
+    let front = in_file(alloc, text.file)?;
+    let place = at_place(alloc, placed)?;
     format!(in alloc; "cores: {front}{place}: {sentence}\n")
 }
 
-/// The text of a file, or of standard input, is refused.
-pub(crate) fn refused(alloc: Global, file: Option<&str>, placed: PlacedRefusal) -> Ending
-    ensures { TellsRefusal result (option_map (λ t. t.now) file.entry) placed }
+/// The same, and below it the refused line, where it is shown.
+fn refused_line(
+    alloc: Global,
+    text: NamedText<'_>,
+    placed: PlacedRefusal,
+    head: &[u8],
+) -> Result<Vec<u8>, NoMemory>
+    ensures { IfOk result (λ line. line.items ≡ refused_line (text_of text.entry) (record { placed = placed; head = head.now })) }
 {
-    match refused_line(alloc, file, placed) {
+    let front = refused_front(alloc, text, placed, head)?;
+    let mut line = Vec::from_slice(alloc, front.as_bytes())?;
+    show_place(&mut line, head, placed.refusal.line, placed.column)?;
+    Ok(line)
+}
+
+/// The text of a graph with this head is refused.
+pub(crate) fn refused(
+    alloc: Global,
+    text: NamedText<'_>,
+    placed: PlacedRefusal,
+    head: &[u8],
+) -> Ending
+    ensures { TellsRefusal result (text_of text.entry) (record { placed = placed; head = head.now }) }
+{
+    match refused_line(alloc, text, placed, head) {
         Ok(line) => Ending {
             status: CoresStatus::Refused,
-            message: Message::Made(line),
+            message: Message::Bytes(line),
         },
         Err(_) => Ending::no_memory(),
     }

@@ -1,9 +1,12 @@
 //! An input that is standard input, or a file that is opened by its name.
 ghost use Rattle.std.specs.Prelude.{◌≡◌, ℕ, List, Option, OnErr, OnOk};
+ghost use Rattle.std.specs.Io.KnownBytes.{prepend_known};
 ghost use Rattle.kc_io.specs.Causes.{HasCause};
 ghost use Rattle.kc_cores.specs.Sentences.{fault_sentence};
 
+use kc_io::NoMemory;
 use kc_io::source::Source;
+use std::alloc::Global;
 use std::io;
 use std::io::ErrorKind;
 
@@ -56,4 +59,10 @@ pub trait FileInput: Source {
         ensures bytes { OnOk result (Self.left self.new ≡ behind self.old name.now) }
         ensures stays { OnErr result (Self.left self.new ≡ Self.left self.old) }
         ensures cause { HasCause (Self.faults self.old) (Self.faults self.new) result };
+
+    /// Puts bytes in front of what is left, so that they are read next. Where there is no memory for them, the input is as it was.
+    fn put_back(&mut self, alloc: Global, bytes: &[u8]) -> Result<(), NoMemory>
+        ensures bytes { OnOk result (Self.left self.new ≡ prepend_known bytes.now (Self.left self.old)) }
+        ensures stays { OnErr result (Self.left self.new ≡ Self.left self.old) }
+        ensures faultless { Self.faults self.new ≡ Self.faults self.old };
 }

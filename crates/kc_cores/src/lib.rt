@@ -15,17 +15,19 @@
 //! The command `watch` answers a stream on a wire (`specs/WatchEnded.antt`): edges, and then batches of changes, each as soon as it has ended.
 //!
 //! The options `--columns`, `--separator`, `--skip` and `--bad-lines` tell a dialect, as the end of a file's name does (`dialect_words`). A text
-//! in a dialect means what the plain text means for which it stands; without one it is read as it is.
+//! in a dialect means what the plain text means for which it stands; without one it is read as it is, but for a byte order mark. The head of
+//! a text is looked at first (`kc_head`): where the text is refused, it tells what the text is, and shows the line.
 //!
 //! The crate stands on `kc_io` for sources and sinks, on `kc_text` for what a text means, on `kc_dialect` and `kc_dialect_read` for
-//! dialects, on `kc_flat` and `kc_graph` for core numbers, on `kc_tally` for layers, on `kc_claims` for certificates, on `kc_wire`,
-//! `kc_dialogue`, `kc_stream` and `kc_watch` for streams, on `kc_lines` for lines, and on `clap`.
+//! dialects, on `kc_head` for the head of a text, on `kc_flat` and `kc_graph` for core numbers, on `kc_tally` for layers, on
+//! `kc_claims` for certificates, on `kc_wire`, `kc_dialogue`, `kc_stream` and `kc_watch` for streams, on `kc_lines` for lines, and on `clap`.
 #![tactic(auto)]
 
 pub mod answer;
 mod checking;
 mod dialect_words;
 mod ending;
+mod front;
 pub mod input;
 mod lines;
 mod listing;

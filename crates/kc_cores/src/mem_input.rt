@@ -1,19 +1,23 @@
 //! An input in memory, with one file.
-ghost use Rattle.std.specs.Prelude.{◌≡◌, ◌<◌, Some, OnErr, OnOk, is_err, is_none, length, string_bytes};
+ghost use Rattle.std.specs.Prelude.{◌≡◌, ◌<◌, ◌++◌, Some, OnErr, OnOk, is_err, is_none, length, string_bytes};
 ghost use Rattle.std.specs.Io.{ReadsAtMost};
 ghost use Rattle.std.specs.Io.KnownBytes.{ReadConsumes};
 ghost use Rattle.kc_io.specs.Causes.{HasCause, faults_after};
 ghost use Rattle.kc_cores.specs.Inputs.{bytes_behind};
 
+use crate::front::{Front, read_front, with_front};
 use crate::input::{FileFault, FileInput};
-use kc_io::Failed;
 use kc_io::mem_source::MemSource;
 use kc_io::source::Source;
+use kc_io::{Failed, NoMemory};
+use std::alloc::Global;
 use std::marker::Model;
 
 /// Bytes in memory that stand for standard input, and a file in memory that it can be turned to once. It tells the bytes of both.
 #[derive(Drop)]
 pub struct MemInput {
+    /// The bytes that were put back.
+    front: Option<Front>,
     source: MemSource,
     name: String,
     file: Option<MemSource>,
@@ -21,13 +25,13 @@ pub struct MemInput {
 }
 
 impl Model for MemInput {
-    ghost use Rattle.std.specs.Prelude.{option_map, string_bytes};
-    ghost use Rattle.kc_cores.specs.Inputs.{InputState, MemFile};
+    ghost use Rattle.std.specs.Prelude.{◌++◌, option_map, string_bytes};
+    ghost use Rattle.kc_cores.specs.Inputs.{InputState, MemFile, front_bytes};
 
     ghost Value = { InputState };
 
     ghost view = { λ s. record {
-      source = s.source;
+      source = record s.source { left = front_bytes s.front ++ s.source.left };
       file = option_map (λ f. record { name = string_bytes s.name; source = f }) s.file;
       failed = s.failed;
     } };
@@ -39,6 +43,7 @@ impl MemInput {
         ensures { result ≡ record { source = source; file = Some (record { name = string_bytes name; source = file }); failed = 0 } }
     {
         MemInput {
+            front: None,
             source,
             name,
             file: Some(file),
@@ -59,6 +64,10 @@ impl Source for MemInput {
         ensures cause { HasCause self.old.failed self.new.failed result }
         ensures counted { self.new.failed ≡ faults_after self.old.failed result }
     {
+        let n = read_front(&mut self.front, into);
+        if n > 0 {
+            return Ok(n);
+        }
         match self.source.read(into) {
             Ok(n) => Ok(n),
             Err(Failed) => {
@@ -81,11 +90,22 @@ impl FileInput for MemInput {
     {
         if self.name.as_str() == name {
             if let Some(file) = self.file.take() {
+                self.front = None;
                 self.source = file;
                 return Ok(());
             }
         }
         self.failed = self.failed.saturating_add(1);
         Err(FileFault::Missing)
+    }
+
+    fn put_back(&mut self, alloc: Global, bytes: &[u8]) -> Result<(), NoMemory>
+        ensures bytes { OnOk result (Some self.new.source.left ≡ Some (bytes.now ++ self.old.source.left)) }
+        ensures stays { OnErr result (self.new.source ≡ self.old.source) }
+        ensures faultless { self.new.failed ≡ self.old.failed }
+    {
+        let front = with_front(alloc, bytes, self.front.as_ref())?;
+        self.front = Some(front);
+        Ok(())
     }
 }

@@ -7,6 +7,7 @@ ghost use Rattle.kc_cores.specs.Endings.{message_text};
 pub(crate) enum Message {
     Fixed(&'static str),
     Made(String),
+    Bytes(Vec<u8>),
 }
 
 impl Message {
@@ -17,6 +18,7 @@ impl Message {
         match self {
             Message::Fixed(text) => text.as_bytes(),
             Message::Made(text) => text.as_bytes(),
+            Message::Bytes(text) => text.as_slice(),
         }
     }
 }

@@ -3,15 +3,17 @@ ghost use Rattle.std.specs.FinSet as set;
 ghost use Rattle.std.specs.Prelude.{◌≡◌, ◌≤◌, ℕ, List, None, Option, Some, IfErr, IfOk, IfSome, OnOk, length, option_map};
 ghost use Rattle.std.specs.Io.KnownBytes.{IsAtEnd};
 ghost use Rattle.kc_cores.specs.Endings.{HasNoFileGraph, HasNoGraph, text_of};
-ghost use Rattle.kc_cores.specs.Inputs.{AreReadFrom, HasFewIds, IsGraphOf, known_bytes};
+ghost use Rattle.kc_cores.specs.Inputs.{AreReadFrom, HasFewIds, IsGraphOf, IsLookedAt, known_bytes, text_bytes};
+ghost use Rattle.kc_cores.specs.Wishes.{GraphText};
 
 use crate::ending::{Ending, refused, unopened};
 use crate::input::FileInput;
 use crate::request::NamedText;
-use kc_dialect::{Dialect, SkippedLines};
+use kc_dialect::{Dialect, SkippedLines, without_mark};
 use kc_dialect_read::{DialectEdges, DialectFault, PlacedRefusal, read_edges_in};
 use kc_flat::FlatGraph;
 use kc_graph::NoMemory;
+use kc_head::{HeadFault, read_head, wrong_column};
 use kc_io::source::Source;
 use kc_read::{InputFault, read_edges};
 use kc_text::{Limits, NamedEdges};
@@ -27,16 +29,49 @@ pub(crate) struct NamedGraph {
     pub(crate) skipped: SkippedLines,
 }
 
-/// The ids and edges that all bytes of the source tell as they are. The text is not held.
+/// What is read of the bytes of a text: where it is in no dialect, all but a byte order mark at its front.
+fn text_bytes(dialect: Option<Dialect>, bytes: &[u8]) -> &[u8]
+    ensures { result.now ≡ text_bytes dialect bytes.now }
+{
+    match dialect {
+        None => without_mark(bytes),
+        Some(_) => bytes,
+    }
+}
+
+/// The head of what the input has left, which is put back: where it is in no dialect, without the byte order mark at its front.
+fn look<I: FileInput>(
+    alloc: Global,
+    dialect: Option<Dialect>,
+    input: &mut I,
+) -> Result<Vec<u8>, Ending>
+    ensures looked { IfOk result (λ head. IsLookedAt dialect (I.left input.old) (I.left input.new) head.items) }
+    ensures stopped { (graph : GraphText) → IfErr result (λ ending. HasNoGraph ending graph (I.left input.old) (I.faults input.old) (I.faults input.new)) }
+    ensures faultless { OnOk result (I.faults input.new ≡ I.faults input.old) }
+{
+    match read_head(alloc, input) {
+        Err(HeadFault::ReadFault) => Err(Ending::read_fault()),
+        Err(HeadFault::NoMemory) => Err(Ending::no_memory()),
+        Ok(head) => {
+            let text = text_bytes(dialect, &head);
+            input.put_back(alloc, text)?;
+            Ok(head)
+        }
+    }
+}
+
+/// The ids and edges that all bytes of the source tell as they are, behind a byte order mark. The text is not held.
 fn plain_edges<S: Source>(
     alloc: Global,
     file: Option<&str>,
+    head: &[u8],
     source: &mut S,
 ) -> Result<DialectEdges, Ending>
-    ensures edges { IfOk result (AreReadFrom None (S.left source.old)) }
+    ensures edges { (known : Option (List ℕ)) → IsLookedAt None known (S.left source.old) head.now → IfOk result (AreReadFrom None known) }
     ensures read { OnOk result (IsAtEnd (S.left source.new)) }
-    ensures stopped { IfErr result (λ ending. HasNoGraph ending (record { file = option_map (λ t. t.now) file.entry; dialect = None })
-        (S.left source.old) (S.faults source.old) (S.faults source.new)) }
+    ensures stopped { (known : Option (List ℕ)) → IsLookedAt None known (S.left source.old) head.now
+        → IfErr result (λ ending. HasNoGraph ending (record { file = option_map (λ t. t.now) file.entry; dialect = None })
+        known (S.faults source.old) (S.faults source.new)) }
     ensures faultless { OnOk result (S.faults source.new ≡ S.faults source.old) }
 {
     match read_edges(alloc, source, Limits::GRAPH) {
@@ -51,9 +86,13 @@ fn plain_edges<S: Source>(
         Err(InputFault::Refused(refusal)) => {
             let placed = PlacedRefusal {
                 refusal,
-                column: None,
+                column: wrong_column(head, refusal),
             };
-            Err(refused(alloc, file, placed))
+            let text = NamedText {
+                file,
+                dialect: None,
+            };
+            Err(refused(alloc, text, placed, head))
         }
         Err(InputFault::NoMemory) => Err(Ending::no_memory()),
     }
@@ -64,36 +103,48 @@ fn dialect_edges<S: Source>(
     alloc: Global,
     file: Option<&str>,
     dialect: Dialect,
+    head: &[u8],
     source: &mut S,
 ) -> Result<DialectEdges, Ending>
-    ensures edges { IfOk result (AreReadFrom (Some dialect) (S.left source.old)) }
+    ensures edges { (known : Option (List ℕ)) → IsLookedAt (Some dialect) known (S.left source.old) head.now
+        → IfOk result (AreReadFrom (Some dialect) known) }
     ensures read { OnOk result (IsAtEnd (S.left source.new)) }
-    ensures stopped { IfErr result (λ ending. HasNoGraph ending (record { file = option_map (λ t. t.now) file.entry; dialect = Some dialect })
-        (S.left source.old) (S.faults source.old) (S.faults source.new)) }
+    ensures stopped { (known : Option (List ℕ)) → IsLookedAt (Some dialect) known (S.left source.old) head.now
+        → IfErr result (λ ending. HasNoGraph ending (record { file = option_map (λ t. t.now) file.entry; dialect = Some dialect })
+        known (S.faults source.old) (S.faults source.new)) }
     ensures faultless { OnOk result (S.faults source.new ≡ S.faults source.old) }
 {
     match read_edges_in(alloc, source, dialect) {
         Ok(found) => Ok(found),
         Err(DialectFault::ReadFault) => Err(Ending::read_fault()),
-        Err(DialectFault::Refused(placed)) => Err(refused(alloc, file, placed)),
+        Err(DialectFault::Refused(placed)) => {
+            let text = NamedText {
+                file,
+                dialect: Some(dialect),
+            };
+            Err(refused(alloc, text, placed, head))
+        }
         Err(DialectFault::NoMemory) => Err(Ending::no_memory()),
     }
 }
 
-/// The ids and edges that all bytes of the source tell.
+/// The ids and edges that all bytes of the source tell, whose head was looked at.
 fn edges_from<S: Source>(
     alloc: Global,
     text: NamedText<'_>,
+    head: &[u8],
     source: &mut S,
 ) -> Result<DialectEdges, Ending>
-    ensures edges { IfOk result (AreReadFrom text.entry.dialect (S.left source.old)) }
+    ensures edges { (known : Option (List ℕ)) → IsLookedAt text.entry.dialect known (S.left source.old) head.now
+        → IfOk result (AreReadFrom text.entry.dialect known) }
     ensures read { OnOk result (IsAtEnd (S.left source.new)) }
-    ensures stopped { IfErr result (λ ending. HasNoGraph ending (text_of text.entry) (S.left source.old) (S.faults source.old) (S.faults source.new)) }
+    ensures stopped { (known : Option (List ℕ)) → IsLookedAt text.entry.dialect known (S.left source.old) head.now
+        → IfErr result (λ ending. HasNoGraph ending (text_of text.entry) known (S.faults source.old) (S.faults source.new)) }
     ensures faultless { OnOk result (S.faults source.new ≡ S.faults source.old) }
 {
     match text.dialect {
-        None => plain_edges(alloc, text.file, source),
-        Some(dialect) => dialect_edges(alloc, text.file, dialect, source),
+        None => plain_edges(alloc, text.file, head, source),
+        Some(dialect) => dialect_edges(alloc, text.file, dialect, head, source),
     }
 }
 
@@ -114,19 +165,37 @@ fn graph_of(alloc: Global, found: DialectEdges) -> Result<NamedGraph, NoMemory>
     })
 }
 
-/// The graph of all that the source has left.
-fn graph_from<S: Source>(
+/// The graph of all that the source has left, whose head was looked at.
+fn graph_behind<S: Source>(
     alloc: Global,
     text: NamedText<'_>,
+    head: &[u8],
     source: &mut S,
 ) -> Result<NamedGraph, Ending>
-    ensures graph { IfOk result (λ named. IsGraphOf text.entry.dialect (S.left source.old) named.ids.items named.graph named.skipped) }
+    ensures graph { (known : Option (List ℕ)) → IsLookedAt text.entry.dialect known (S.left source.old) head.now
+        → IfOk result (λ named. IsGraphOf text.entry.dialect known named.ids.items named.graph named.skipped) }
     ensures read { OnOk result (IsAtEnd (S.left source.new)) }
-    ensures stopped { IfErr result (λ ending. HasNoGraph ending (text_of text.entry) (S.left source.old) (S.faults source.old) (S.faults source.new)) }
+    ensures stopped { (known : Option (List ℕ)) → IsLookedAt text.entry.dialect known (S.left source.old) head.now
+        → IfErr result (λ ending. HasNoGraph ending (text_of text.entry) known (S.faults source.old) (S.faults source.new)) }
     ensures faultless { OnOk result (S.faults source.new ≡ S.faults source.old) }
 {
-    let found = edges_from(alloc, text, source)?;
+    let found = edges_from(alloc, text, head, source)?;
     Ok(graph_of(alloc, found)?)
+}
+
+/// The graph of all that the input has left.
+fn graph_from<I: FileInput>(
+    alloc: Global,
+    text: NamedText<'_>,
+    input: &mut I,
+) -> Result<NamedGraph, Ending>
+    ensures graph { IfOk result (λ named. IsGraphOf text.entry.dialect (I.left input.old) named.ids.items named.graph named.skipped) }
+    ensures read { OnOk result (IsAtEnd (I.left input.new)) }
+    ensures stopped { IfErr result (λ ending. HasNoGraph ending (text_of text.entry) (I.left input.old) (I.faults input.old) (I.faults input.new)) }
+    ensures faultless { OnOk result (I.faults input.new ≡ I.faults input.old) }
+{
+    let head = look(alloc, text.dialect, input)?;
+    graph_behind(alloc, text, &head, input)
 }
 
 /// Turns to the file, where one is named.

@@ -1,7 +1,10 @@
 //! What is wrong with a line that is refused, and how it is mended.
 ghost use Rattle.std.specs.Prelude.{◌≡◌};
-ghost use Rattle.kc_cores.specs.Sentences.{column_sentence, placed_sentence, sentence_of, stream_sentence};
+ghost use Rattle.kc_cores.specs.Sentences.{column_sentence, foreign, foreign_sentence, format_sentence, sentence_for, sentence_of};
+ghost use Rattle.kc_cores.specs.Sentences.{stream_sentence, text_sentence};
 
+use kc_dialect::{Dialect, Signature};
+use kc_head::{Foreign, foreign_in};
 use kc_text::Kind;
 
 /// What was found wrong, and how it is mended.
@@ -10,13 +13,13 @@ fn sentence_of(kind: Kind) -> &'static str
 {
     match kind {
         Kind::NotANumber => {
-            "a field is not a whole number; write two ids of decimal digits, begin a comment with #, or see --separator, --columns and --skip"
+            "a field is not a whole number; number the names of the vertices, begin a comment with #, or see --separator, --columns and --skip"
         }
         Kind::MissingField => {
             "the second id is missing; write two ids with a blank or a tab between them, or name what parts them by --separator"
         }
         Kind::ExtraField => {
-            "there are more than two fields; name the columns of the two ids, as by --columns 1,2"
+            "there are more than two fields; name the columns of the two ids, as by --columns 1,2, or write an adjacency list as edges, one a line"
         }
         Kind::NumberTooLarge => {
             "an id is greater than 4294967295; number the vertices anew with smaller ids"
@@ -51,7 +54,7 @@ fn column_sentence(kind: Kind) -> &'static str
 {
     match kind {
         Kind::NotANumber => {
-            "the field is not a whole number; pass over a head by --skip, bad lines by --bad-lines skip, or name other columns by --columns"
+            "the field is not a whole number; pass over a head by --skip, bad lines by --bad-lines skip, or see --separator and --columns"
         }
         Kind::MissingField => {
             "a column is missing; name the columns of the two ids by --columns, what parts them by --separator, or see --bad-lines skip"
@@ -60,13 +63,69 @@ fn column_sentence(kind: Kind) -> &'static str
     }
 }
 
-/// What was found wrong, where a column is meant or none, and how it is mended.
-pub(crate) fn placed_sentence(column: Option<u64>, kind: Kind) -> &'static str
-    ensures { result.now ≡ placed_sentence column kind }
+/// What was found wrong in a text that is in a dialect, or in none, and how it is mended.
+fn text_sentence(dialect: Option<Dialect>, kind: Kind) -> &'static str
+    ensures { result.now ≡ text_sentence dialect kind }
 {
-    match column {
+    match dialect {
         Some(_) => column_sentence(kind),
         None => sentence_of(kind),
+    }
+}
+
+/// What is told of a file of another format, and how edges are made of it.
+fn format_sentence(signature: Signature) -> &'static str
+    ensures { result.now ≡ format_sentence signature }
+{
+    match signature {
+        Signature::Gzip => "this is gzip; unpack it, as by zcat FILE | cores numbers",
+        Signature::Bzip2 => "this is bzip2; unpack it, as by bzcat FILE | cores numbers",
+        Signature::Xz => "this is xz; unpack it, as by xzcat FILE | cores numbers",
+        Signature::Zstd => "this is zstd; unpack it, as by zstdcat FILE | cores numbers",
+        Signature::Utf16Le | Signature::Utf16Be => {
+            "this is UTF-16; make it UTF-8, as by iconv -f UTF-16 -t UTF-8 FILE | cores numbers"
+        }
+        Signature::MatrixMarket => {
+            "this is MatrixMarket; pass over its lines up to that of the sizes by --skip, and name the columns of the two ids by --columns 1,2"
+        }
+    }
+}
+
+/// What is told of a text that is no lines of a graph, and how edges are made of it.
+fn foreign_sentence(foreign: Foreign) -> &'static str
+    ensures { result.now ≡ foreign_sentence foreign }
+{
+    match foreign {
+        Foreign::Marked(signature) => format_sentence(signature),
+        Foreign::BareReturns => {
+            "the lines end in CR alone; make them newlines, as by tr '\\r' '\\n' < FILE | cores numbers"
+        }
+    }
+}
+
+/// What a text is that is no lines of a graph, as its head tells. Where lines at the top are passed over, that is not asked.
+fn foreign(dialect: Option<Dialect>, head: &[u8]) -> Option<Foreign>
+    ensures { result ≡ foreign dialect head.now }
+{
+    match dialect {
+        None => foreign_in(head),
+        Some(dialect) => {
+            if dialect.skip == 0 {
+                foreign_in(head)
+            } else {
+                None
+            }
+        }
+    }
+}
+
+/// What was found wrong in a text with this head, and how it is mended.
+pub(crate) fn refusal_sentence(dialect: Option<Dialect>, head: &[u8], kind: Kind) -> &'static str
+    ensures { result.now ≡ sentence_for (foreign dialect head.now) dialect kind }
+{
+    match foreign(dialect, head) {
+        Some(what) => foreign_sentence(what),
+        None => text_sentence(dialect, kind),
     }
 }
 

@@ -1,7 +1,7 @@
 //! What is told of bad lines that were passed over.
 ghost use Rattle.std.specs.Prelude.{◌≡◌, IfOk, option_map, string_bytes};
 ghost use Rattle.std.specs.List.{flat_map};
-ghost use Rattle.kc_cores.specs.Skips.{skip_sentence, skipped_count, skipped_line, told_skips};
+ghost use Rattle.kc_cores.specs.Skips.{lines_were, skip_sentence, skipped_count, skipped_line, told_skips};
 
 use crate::ending::in_file;
 use kc_dialect::{BadKind, BadLine, SkippedLines};
@@ -30,12 +30,23 @@ fn skipped_line(alloc: Global, file: Option<&str>, bad: BadLine) -> Result<Strin
     )
 }
 
+/// How many lines were, in words.
+fn lines_were(alloc: Global, count: u64) -> Result<String, NoMemory>
+    ensures { IfOk result (λ text. string_bytes text ≡ lines_were count) }
+{
+    if count == 1 {
+        return String::from_str(alloc, "1 line was");
+    }
+    format!(in alloc; "{count} lines were")
+}
+
 /// How many lines were passed over.
 fn skipped_count(alloc: Global, file: Option<&str>, count: u64) -> Result<String, NoMemory>
     ensures { IfOk result (λ line. string_bytes line ≡ skipped_count (option_map (λ t. t.now) file.entry) count) }
 {
     let front = in_file(alloc, file)?;
-    format!(in alloc; "cores: {front}{count} lines were passed over\n")
+    let were = lines_were(alloc, count)?;
+    format!(in alloc; "cores: {front}{were} passed over\n")
 }
 
 /// The lines about bad lines.

@@ -5,10 +5,12 @@ ghost use Rattle.std.specs.Io.KnownBytes.{ReadConsumes};
 ghost use Rattle.kc_io.specs.Causes.{HasCause, faults_after};
 ghost use Rattle.kc_cores.specs.Inputs.{no_bytes};
 
+use crate::front::{Front, read_front, with_front};
 use crate::input::{FileFault, FileInput};
-use kc_io::Failed;
 use kc_io::source::Source;
 use kc_io::std_source::StdSource;
+use kc_io::{Failed, NoMemory};
+use std::alloc::Global;
 use std::fs;
 use std::fs::OpenFile;
 use std::io::Read;
@@ -22,6 +24,8 @@ use std::rt::Files;
 #[derive(Drop)]
 pub struct StdInput<'a, R: Files, S: Read> {
     files: &'a R,
+    /// The bytes that were put back.
+    front: Option<Front>,
     standard: StdSource<S>,
     file: Option<StdSource<R::File>>,
     failed: u64,
@@ -51,18 +55,23 @@ impl<'a, R: Files, S: Read> StdInput<'a, R, S> {
     {
         StdInput {
             files,
+            front: None,
             standard: StdSource::new(standard),
             file: None,
             failed: 0,
         }
     }
 
-    /// Reads from the file, where one is open, and else from the reader.
+    /// Reads what was put back, and else from the file, where one is open, or from the reader.
     fn read_on(&mut self, into: &mut [u8]) -> Result<usize, Failed>
         requires { 0 < length into.old }
         ensures bound { ReadsAtMost result into.new }
         ensures kept { self.new ≡ self.old }
     {
+        let n = read_front(&mut self.front, into);
+        if n > 0 {
+            return Ok(n);
+        }
         match &mut self.file {
             Some(file) => file.read(into),
             None => self.standard.read(into),
@@ -103,6 +112,7 @@ impl<'a, R: Files, S: Read> FileInput for StdInput<'a, R, S> {
     {
         match open_file(self.files, name) {
             Ok(file) => {
+                self.front = None;
                 self.file = Some(StdSource::new(file));
                 Ok(())
             }
@@ -111,5 +121,15 @@ impl<'a, R: Files, S: Read> FileInput for StdInput<'a, R, S> {
                 Err(fault)
             }
         }
+    }
+
+    fn put_back(&mut self, alloc: Global, bytes: &[u8]) -> Result<(), NoMemory>
+        ensures bytes { OnOk result (no_bytes ≡ no_bytes) }
+        ensures stays { OnErr result (no_bytes ≡ no_bytes) }
+        ensures faultless { self.new.failed ≡ self.old.failed }
+    {
+        let front = with_front(alloc, bytes, self.front.as_ref())?;
+        self.front = Some(front);
+        Ok(())
     }
 }

@@ -30,11 +30,11 @@ refused-in : (end : CoresStatus) (wish : Wish) (query : Query) (bytes a b line :
     → IsLineAt end wish (known wish) line → (n : ℕ) × (kind : Kind) × (graph_meaning query.graph.dialect bytes ≡ Refuses n kind) × (b ≡ a)
 refused-in end wish query bytes a b line known is asks here took says =
     let none : b ≡ a ++ [] = subst (λ (e : CoresStatus). TookAt e wish (known wish) (Some a) (Some b)) is took in
-    let (asked, placed, same, told, means) = subst (λ (e : CoresStatus). IsLineAt e wish (known wish) line) is says in
+    let (asked, refusal, same, told, means) = subst (λ (e : CoresStatus). IsLineAt e wish (known wish) line) is says in
     let q : asked ≡ query = asked-same asked query (sym same ∙ asks) in
-    let at_task = subst (λ (w : Wish). IfSome (known w) (λ x. IsRefusedBy asked.graph.dialect x placed)) asks means in
-    let refused = subst (λ (k : Option (List ℕ)). IfSome k (λ x. IsRefusedBy asked.graph.dialect x placed)) here at_task in
-    (placed.refusal.line, placed.refusal.kind, ap (λ (x : Query). graph_meaning x.graph.dialect bytes) (sym q) ∙ refused.0, none ∙ append-nil a)
+    let at_task = subst (λ (w : Wish). IfSome (known w) (λ x. IsRefusedBy asked.graph.dialect x refusal)) asks means in
+    let refused = subst (λ (k : Option (List ℕ)). IfSome k (λ x. IsRefusedBy asked.graph.dialect x refusal)) here at_task in
+    (refusal.placed.refusal.line, refusal.placed.refusal.kind, ap (λ (x : Query). graph_meaning x.graph.dialect bytes) (sym q) ∙ refused.0, none ∙ append-nil a)
 
 pub returns-clause-done : goal.returns-clause-done
 returns-clause-done g c = λ query bytes asks here end.
