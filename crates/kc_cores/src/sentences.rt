@@ -140,7 +140,8 @@ pub(crate) fn stream_sentence(kind: Kind) -> &'static str
         Kind::MissingField => {
             "a number is missing; write two ids with a blank or a tab between them, or in a question ? ID or ? core K"
         }
-        Kind::ExtraField => "there are too many fields; write two ids, batch alone, or in a question ? ID, ? core K or ? sizes",
+        Kind::ExtraField =>
+            "there are too many fields; write two ids, batch alone, or in a question ? ID, ? core K or ? sizes",
         Kind::UpdateOutsideBatch => {
             "a change or a question stands before any line batch; write a line batch before it"
         }

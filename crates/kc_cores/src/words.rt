@@ -352,7 +352,7 @@ fn wrong_value(alloc: Global) -> Reply
 {
     match String::from_str(
         alloc,
-        "cores: --columns takes two unlike numbers from 1, as 1,2; --separator blank, comma, semicolon or tab; --bad-lines stop or skip; --format tsv or json\n",
+        "cores: --columns takes two unlike numbers, as 1,2; --separator blank, comma, semicolon or tab; --bad-lines stop or skip; --format tsv or json\n",
     ) {
         Ok(text) => Reply::Mistake(text),
         Err(_) => Reply::NoMemory,
