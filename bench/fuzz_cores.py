@@ -6,8 +6,9 @@ usage: fuzz_cores.py [--cores PROGRAM] [--cases N] [--seed N]
 
 The model follows the definitions: core numbers by taking vertices away, k-cores and layers from these. Of `order` it tests that the lines
 certify the numbers. Some runs ask for JSON, and its objects are those of Python's json. `check` is run on what `order` and `layers` write,
-and on the same with lines changed, swapped, left out, repeated or made foreign. Then a line that is wrong stands among the others: what is
-told has to name line and column, and to show the line with a caret. Some inputs begin with a byte order mark. At last a reader goes away
+and on the same with lines changed, swapped, left out, repeated or made foreign. It reads the graph from standard input, from a file, from a
+pipe by its name, and from a file whose edges ascend, some of which have a line that does not. Then a line that is wrong stands among the
+others: what is told has to name line and column, and to show the line with a caret. Some inputs begin with a byte order mark. At last a reader goes away
 that has taken one line. An input that differs is printed, and the status is 1 then. Tables with options that tell how they are read are
 those of `fuzz_tables.py`.
 """
@@ -171,11 +172,12 @@ def fault_of(neighbours, claims):
     return None
 
 
-def is_checked(program, neighbours, text, lines, certificate):
-    """Whether the check of these lines ends as the model says."""
+def is_checked(program, neighbours, graph, lines, certificate):
+    """Whether the check of these lines ends as the model says. The graph is a text on standard input, and the words that name it."""
+    text, words = graph
     certificate.write_text("".join(line + "\n" for line in lines))
     refused, claims = claims_of(lines)
-    status, answer, told = run(program, ("check", str(certificate)), text)
+    status, answer, told = run(program, ("check", str(certificate), *words), text)
     start = f"cores: {certificate}: "
     if refused:
         return (status, answer) == (3, "") and told.startswith(f"{start}line {refused}: ")
@@ -185,16 +187,47 @@ def is_checked(program, neighbours, text, lines, certificate):
     return (status, answer) == (1, f"no\t{fault[0]}\n") and told.startswith(start + fault[1])
 
 
+def ascending_of(draw, neighbours):
+    """The edges of a graph, each once and with its lesser id first, in ascending order; or nearly so, or with a comment among them."""
+    lines = [f"{u}{draw.choice((' ', chr(9)))}{v}" for u in neighbours for v in sorted(neighbours[u]) if u < v]
+    way, j = draw.randrange(9), draw.randrange(len(lines) + 1)
+    if way == 4:
+        lines.insert(j, draw.choice(("# a comment", "", "% 3 4")))
+    elif way == 5 and lines:
+        lines.insert(j, draw.choice(lines))
+    elif way == 6 and lines:
+        lines[-1] = " ".join(reversed(lines[-1].split()))
+    elif way == 7 and lines:
+        lines.insert(j, lines.pop(draw.randrange(len(lines))))
+    elif way == 8:
+        lines.insert(j, draw.choice(("5 5", "3  4 ", "0 7", "4294967295 0")))
+    return "".join(line + "\n" for line in lines)
+
+
+def graphs_of(draw, text, place):
+    """The ways to give a graph to a check: on standard input, as a file, as a pipe that has a name, and as a file of ascending edges."""
+    file, ascending = place / "graph", place / "ascending"
+    file.write_text(text)
+    edges = ascending_of(draw, graph_of(text))
+    ascending.write_text(edges if draw.random() < 0.8 else edges.rstrip("\n"))
+    yield text, (text, ())
+    yield text, ("", (str(file),))
+    yield text, (text, ("/dev/stdin",))
+    yield edges, ("", (str(ascending),))
+
+
 def wrong_checks(program, draw, text, place):
-    """The certificates whose check differs: one as it is written and some that are changed, for each command that writes them."""
-    neighbours = graph_of(text)
-    for command in ("order", "layers", "numbers"):
-        lines = run(program, (command,), text)[1].splitlines()
-        tries = [changed(draw, lines) for _ in range(4)]
-        right = [] if command == "numbers" else [lines]
-        for found in right + tries:
-            if not is_checked(program, neighbours, text, found, place / "certificate"):
-                yield "check", repr(found)
+    """The certificates whose check differs: one as it is written and some that are changed, for each command that writes them, and for each
+    way to give the graph."""
+    for named, graph in graphs_of(draw, text, place):
+        neighbours = graph_of(named)
+        for command in ("order", "layers", "numbers"):
+            lines = run(program, (command,), named)[1].splitlines()
+            tries = [changed(draw, lines) for _ in range(4 if graph[1] == () else 2)]
+            right = [] if command == "numbers" else [lines]
+            for found in right + tries:
+                if not is_checked(program, neighbours, graph, found, place / "certificate"):
+                    yield "check", repr(found), *graph[1]
 
 
 def is_quiet(program):
@@ -301,7 +334,7 @@ def main():
     if not is_quiet(chosen.cores):
         wrong += 1
         print("cores numbers: a reader that goes away is told as a fault")
-    print(f"{chosen.cases} cases of seed {chosen.seed}, eight commands, fourteen checks and three refusals each: {wrong or 'none'} wrong")
+    print(f"{chosen.cases} cases of seed {chosen.seed}, eight commands, 38 checks and three refusals each: {wrong or 'none'} wrong")
     sys.exit(1 if wrong else 0)
 
 

@@ -8,4 +8,5 @@ pub mod Placing
 pub mod Replies
 pub mod Sizing
 pub mod Stopping
+pub mod Unmarked
 pub mod Watched

@@ -1,6 +1,8 @@
 //! The check of a certificate: what is read for it, and what is said.
 ghost use Rattle.std.specs.Prelude.{◌≡◌, ◌≤◌, IfErr, IfOk, IfSome, None, Ok, OnOk, length};
 ghost use Rattle.kc_text.specs.declared.limits.TheConstants.Limits.{GRAPH};
+ghost use Rattle.kc_claims.specs.Certificates.{AreCertificate, IsFirstFault, TellCoreNumbers};
+ghost use Rattle.kc_claims.specs.Streams.{HoldsOfStream};
 ghost use Rattle.kc_cores.specs.CheckEnded.{AreClaimsOf, IsRight, IsWrong, certificate_meaning};
 ghost use Rattle.kc_cores.specs.Endings.{HasNoClaims, HasNoVerdict, HasSaid, IsRefuted, RefusesClaims, text_of};
 ghost use Rattle.kc_cores.specs.Inputs.{known_bytes};
@@ -10,9 +12,9 @@ use crate::ending::{Ending, unopened};
 use crate::input::FileInput;
 use crate::message::Message;
 use crate::reading::read_graph;
-use crate::request::CheckRequest;
+use crate::request::{CheckRequest, NamedText};
 use crate::verdict::{claim_refused, fault_line, no_line};
-use kc_claims::{CheckFault, Claim, ClaimFault, TextFault, check_claims, claims_of};
+use kc_claims::{CheckFault, Claim, ClaimFault, TextFault, check_claims, check_stream, claims_of};
 use kc_io::sink::{Sink, write_all};
 use kc_io::source::{ReadAllFault, Source, read_all};
 use kc_text::{Kind, Limits, Refusal};
@@ -68,7 +70,35 @@ fn read_claims<C: FileInput>(
     }
 }
 
-/// Reads the certificate and then the graph, and gives the first fault of the certificate if it has one.
+/// What the claims are for the graph of a file, by a sweep over its edges as they come. It tells nothing where the text is in a dialect, is
+/// that of no file that can be read beside the input, or is none that a sweep can tell of.
+fn swept<I: FileInput>(
+    alloc: Global,
+    claims: &[Claim],
+    text: NamedText<'_>,
+    input: &I,
+) -> Option<Option<ClaimFault>>
+    ensures plain { IfSome result (λ _. text.entry.dialect ≡ None) }
+    ensures right { IfSome result (λ found. found ≡ None → HoldsOfStream (λ ids g. AreCertificate ids g claims.now × TellCoreNumbers ids g claims.now)
+        (known_bytes I.left I.behind (text_of text.entry).file input.now)) }
+    ensures wrong { IfSome result (λ found. IfSome found (λ fault. HoldsOfStream (λ ids g. IsFirstFault ids g claims.now fault)
+        (known_bytes I.left I.behind (text_of text.entry).file input.now))) }
+{
+    if text.dialect.is_some() {
+        return None;
+    }
+    let Some(name) = text.file else {
+        return None;
+    };
+    let mut file = input.beside(name)?;
+    match check_stream(alloc, claims, &mut file) {
+        Ok(found) => Some(found),
+        Err(_) => None,
+    }
+}
+
+/// Reads the certificate and then the graph, and gives the first fault of the certificate if it has one. A file is swept first, and no graph
+/// is made of it where that tells what the claims are.
 pub(crate) fn verdict_on<I: FileInput, C: FileInput>(
     alloc: Global,
     request: CheckRequest<'_>,
@@ -85,6 +115,9 @@ pub(crate) fn verdict_on<I: FileInput, C: FileInput>(
         (I.faults input.old) (I.faults input.new) (C.faults certificate.old) (C.faults certificate.new)) }
 {
     let claims = read_claims(alloc, request.certificate, certificate)?;
+    if let Some(found) = swept(alloc, &claims, request.graph, input) {
+        return Ok(found);
+    }
     let named = read_graph(alloc, request.graph, input)?;
     match check_claims(alloc, &named.ids, &named.graph, &claims) {
         Ok(()) => Ok(None),

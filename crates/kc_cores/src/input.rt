@@ -1,5 +1,5 @@
 //! An input that is standard input, or a file that is opened by its name.
-ghost use Rattle.std.specs.Prelude.{◌≡◌, ℕ, List, Option, OnErr, OnOk};
+ghost use Rattle.std.specs.Prelude.{◌≡◌, ℕ, IfSome, List, Option, OnErr, OnOk, Some};
 ghost use Rattle.std.specs.Io.KnownBytes.{prepend_known};
 ghost use Rattle.kc_io.specs.Causes.{HasCause};
 ghost use Rattle.kc_cores.specs.Sentences.{fault_sentence};
@@ -50,6 +50,9 @@ impl From<io::Error> for FileFault {
 
 /// A source that can be turned to a file.
 pub trait FileInput: Source {
+    /// A file that is read beside it.
+    type Beside: Source + Drop;
+
     /// The bytes of the file with this name, where the input tells them.
     ghost behind: { Self → List ℕ → Option (List ℕ) };
 
@@ -65,4 +68,8 @@ pub trait FileInput: Source {
         ensures bytes { OnOk result (Self.left self.new ≡ prepend_known bytes.now (Self.left self.old)) }
         ensures stays { OnErr result (Self.left self.new ≡ Self.left self.old) }
         ensures faultless { Self.faults self.new ≡ Self.faults self.old };
+
+    /// The file by itself, from its first byte on, where it can be read beside the input. The input stays as it is.
+    fn beside(&self, name: &str) -> Option<Self::Beside>
+        ensures { IfSome result (λ file. IfSome (behind self.now name.now) (λ all. Self.Beside.Source.left file ≡ Some all)) };
 }

@@ -79,6 +79,8 @@ impl Source for MemInput {
 }
 
 impl FileInput for MemInput {
+    type Beside = MemSource;
+
     ghost behind = { bytes_behind };
 
     fn open(&mut self, name: &str) -> Result<(), FileFault>
@@ -107,5 +109,10 @@ impl FileInput for MemInput {
         let front = with_front(alloc, bytes, self.front.as_ref())?;
         self.front = Some(front);
         Ok(())
+    }
+
+    /// There is none: its file is read once.
+    fn beside(&self, _: &str) -> Option<MemSource> {
+        None
     }
 }

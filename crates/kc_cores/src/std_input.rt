@@ -48,6 +48,14 @@ fn open_file<R: Files>(files: &R, name: &str) -> Result<R::File, FileFault> {
     Ok(file)
 }
 
+/// Opens a file that may be opened again: a pipe is not opened.
+fn file_beside<R: Files>(files: &R, name: &str) -> Result<R::File, FileFault> {
+    if !fs::metadata(files, name)?.is_file() {
+        return Err(FileFault::Other);
+    }
+    open_file(files, name)
+}
+
 impl<'a, R: Files, S: Read> StdInput<'a, R, S> {
     /// The reader, of which no call has failed, and no file.
     pub fn new(files: &'a R, standard: S) -> StdInput<'a, R, S>
@@ -102,6 +110,8 @@ impl<'a, R: Files, S: Read> Source for StdInput<'a, R, S> {
 }
 
 impl<'a, R: Files, S: Read> FileInput for StdInput<'a, R, S> {
+    type Beside = StdSource<R::File>;
+
     ghost behind = { λ _ _. no_bytes };
 
     fn open(&mut self, name: &str) -> Result<(), FileFault>
@@ -131,5 +141,13 @@ impl<'a, R: Files, S: Read> FileInput for StdInput<'a, R, S> {
         let front = with_front(alloc, bytes, self.front.as_ref())?;
         self.front = Some(front);
         Ok(())
+    }
+
+    /// The file is opened once more. What is no file on a disk, as a pipe, is not, since it can be read just once.
+    fn beside(&self, name: &str) -> Option<StdSource<R::File>> {
+        match file_beside(self.files, name) {
+            Ok(file) => Some(StdSource::new(file)),
+            Err(_) => None,
+        }
     }
 }

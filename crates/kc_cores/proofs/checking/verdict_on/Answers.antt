@@ -3,7 +3,10 @@ use Rattle.std.proofs.Common.{◌≡◌, ◌∙◌, ℕ, List, ap, length, refl,
 use Rattle.kc_graph.specs.SimpleGraph.{SimpleGraph}
 use Rattle.kc_claims.specs.Certificates.{AreCertificate, IsFirstFault, TellCoreNumbers}
 use Rattle.kc_claims.specs.declared.claim.Claim.{Claim}
-use Rattle.kc_cores.proofs.Graphs.{size-graph_of}
+use Rattle.kc_claims.specs.Streams.{HoldsOfStream}
+use Rattle.kc_claims.specs.declared.fault.ClaimFault.{ClaimFault}
+use Rattle.kc_claims.proofs.Streamed.{some-weaker}
+use Rattle.kc_cores.proofs.Graphs.{HoldsOfBoth-streamed, none_skipped, size-graph_of}
 use Rattle.kc_cores.proofs.checking.verdict_on.Goals as goal
 
 -- what holds of lists that are lent holds of the lists
@@ -14,7 +17,7 @@ lent P g ids ids' claims claims' one two h =
 
 pub check_claims-requires-clause-named : goal.check_claims-requires-clause-named
 check_claims-requires-clause-named g c =
-    ap length c.deref.ensures.value ∙ sym (size-graph_of _ _ c.in_ok-named.named.ids.items c.in_ok-named.named.graph c.in_ok-named.named.skipped
+    ap length c.deref-2.ensures.value ∙ sym (size-graph_of _ _ c.in_ok-named.named.ids.items c.in_ok-named.named.graph c.in_ok-named.named.skipped
     c.in_ok-named.ensures.graph)
 
 pub returns-in-Ok-clause-right : goal.returns-in-Ok-clause-right
@@ -26,10 +29,10 @@ returns-in-Ok-clause-right g c = λ _. record {
   graph = c.in_ok-named.ensures.graph;
   claimed = c.in_ok-claims.ensures.claims;
   found = (
-    lent AreCertificate c.in_ok-named.named.graph c.in_ok-named.named.ids.items c.deref.result.now c.in_ok-claims.claims.items c.deref-2.result.now
-        c.deref.ensures.value c.deref-2.ensures.value c.in-Ok.ensures.certified,
-    lent TellCoreNumbers c.in_ok-named.named.graph c.in_ok-named.named.ids.items c.deref.result.now c.in_ok-claims.claims.items c.deref-2.result.now
-        c.deref.ensures.value c.deref-2.ensures.value c.in-Ok.ensures.seidman,
+    lent AreCertificate c.in_ok-named.named.graph c.in_ok-named.named.ids.items c.deref-2.result.now c.in_ok-claims.claims.items c.deref-3.result.now
+        c.deref-2.ensures.value c.deref-3.ensures.value c.in-Ok.ensures.certified,
+    lent TellCoreNumbers c.in_ok-named.named.graph c.in_ok-named.named.ids.items c.deref-2.result.now c.in_ok-claims.claims.items c.deref-3.result.now
+        c.deref-2.ensures.value c.deref-3.ensures.value c.in-Ok.ensures.seidman,
   );
 }
 
@@ -43,6 +46,19 @@ returns-in-Err-Faulty-clause-wrong g c =
       skipped = c.in_ok-named.named.skipped;
       graph = c.in_ok-named.ensures.graph;
       claimed = c.in_ok-claims.ensures.claims;
-      found = lent (λ xs h cs. IsFirstFault xs h cs c.in-Err-Faulty.fault) c.in_ok-named.named.graph c.in_ok-named.named.ids.items c.deref.result.now
-          c.in_ok-claims.claims.items c.deref-2.result.now c.deref.ensures.value c.deref-2.ensures.value (faulty c.in-Err-Faulty.fault refl);
+      found = lent (λ xs h cs. IsFirstFault xs h cs c.in-Err-Faulty.fault) c.in_ok-named.named.graph c.in_ok-named.named.ids.items c.deref-2.result.now
+          c.in_ok-claims.claims.items c.deref-3.result.now c.deref-2.ensures.value c.deref-3.ensures.value (faulty c.in-Err-Faulty.fault refl);
     }
+
+pub returns-in-Some-clause-right : goal.returns-in-Some-clause-right
+returns-in-Some-clause-right g c = λ none.
+    let (skipped, is_none) = none_skipped c.in_ok-claims.claims in
+    HoldsOfBoth-streamed (λ ids h claims. AreCertificate ids h claims × TellCoreNumbers ids h claims) _ _ _ c.in_ok-claims.claims.items c.deref.result.now
+    skipped is_none c.in-Some.ensures.plain c.in_ok-claims.ensures.claims c.deref.ensures.value (c.in-Some.ensures.right none)
+
+pub returns-in-Some-clause-wrong : goal.returns-in-Some-clause-wrong
+returns-in-Some-clause-wrong g c =
+    let (skipped, is_none) = none_skipped c.in_ok-claims.claims in
+    some-weaker (λ (fault : ClaimFault). HoldsOfStream (λ ids h. IsFirstFault ids h c.deref.result.now fault) _) _ c.in-Some.found
+    (λ fault. HoldsOfBoth-streamed (λ ids h claims. IsFirstFault ids h claims fault) _ _ _ c.in_ok-claims.claims.items c.deref.result.now
+    skipped is_none c.in-Some.ensures.plain c.in_ok-claims.ensures.claims c.deref.ensures.value) c.in-Some.ensures.wrong
