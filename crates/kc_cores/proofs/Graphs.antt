@@ -1,5 +1,6 @@
 -- The graph of what was read is the graph that the bytes mean.
-use Rattle.std.proofs.Common.{◌≡◌, ◌∙◌, Global, ℕ, IfSome, List, [], Option, None, Some, Vec, false, is_some, length, lit<, lit≤, refl, sym, ap, subst, true≢false}
+use Rattle.std.proofs.Common.{◌≡◌, ◌∙◌, Global, ℕ, IfSome, List, [], Option, None, Some, Vec, false, is_some, length, lit<, lit≤, refl, sym, ap}
+use Rattle.std.proofs.Common.{subst, true≢false}
 use Rattle.std.specs.FinSet as set
 use Rattle.kc_graph.specs.SimpleGraph.{SimpleGraph}
 use Rattle.kc_text.specs.Inputs.{AreIds, IsNamedEdges, start_graph}

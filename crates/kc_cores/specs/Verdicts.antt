@@ -30,7 +30,8 @@ fault_line name (Missing id) =
     codes "cores: " ++ (name ++ (codes ": id " ++ (decimal id ++ codes " of the graph has no line; add it or write the certificate anew with cores order\n")))
 fault_line name (ManyLater claim count) =
     at_claim name claim
-    (codes " is told core number " ++ (decimal claim.number ++ (codes ", but " ++ (decimal count ++ codes " neighbours stand behind it; cores order writes a certificate\n"))))
+    (codes " is told core number " ++ (decimal claim.number ++ (codes ", but " ++ (decimal count
+    ++ codes " neighbours stand behind it; cores order writes a certificate\n"))))
 fault_line name (FewSupporters claim count) =
     at_claim name claim
     (codes " is told core number " ++ (decimal claim.number ++ (codes ", but only " ++ (decimal count ++ codes " neighbours are told as much or more\n"))))

@@ -105,9 +105,11 @@ pub(crate) fn verdict_on<I: FileInput, C: FileInput>(
     input: &mut I,
     certificate: &mut C,
 ) -> Result<Option<ClaimFault>, Ending>
-    ensures right { IfOk result (λ found. found ≡ None → IsRight request.entry.graph.dialect (known_bytes I.left I.behind (text_of request.entry.graph).file input.old)
+    ensures right { IfOk result (λ found. found ≡ None → IsRight request.entry.graph.dialect
+        (known_bytes I.left I.behind (text_of request.entry.graph).file input.old)
         (C.behind certificate.old request.entry.certificate.now)) }
-    ensures wrong { IfOk result (λ found. IfSome found (λ fault. IsWrong fault request.entry.graph.dialect (known_bytes I.left I.behind (text_of request.entry.graph).file input.old)
+    ensures wrong { IfOk result (λ found. IfSome found (λ fault. IsWrong fault request.entry.graph.dialect
+        (known_bytes I.left I.behind (text_of request.entry.graph).file input.old)
         (C.behind certificate.old request.entry.certificate.now))) }
     ensures faultless { OnOk result ((I.faults input.new ≡ I.faults input.old) × (C.faults certificate.new ≡ C.faults certificate.old)) }
     ensures stopped { IfErr result (λ ending. HasNoVerdict ending request.entry.certificate.now (text_of request.entry.graph)

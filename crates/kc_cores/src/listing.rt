@@ -115,8 +115,10 @@ fn put_vertex<O: Sink>(
 ) -> Result<(), Failed>
     requires same { length vertices.now.ids.now ≡ length vertices.now.core.now }
     requires within { v < length vertices.now.ids.now }
-    ensures passes { OnOk result (PassesOn (O.taken out.old) (O.taken out.new) page.old page.new (vertex_line format vertices.now.ids.now vertices.now.core.now v)) }
-    ensures part { OnErr result (PassesPart (O.taken out.old) (O.taken out.new) page.old (vertex_line format vertices.now.ids.now vertices.now.core.now v)) }
+    ensures passes { OnOk result (PassesOn (O.taken out.old) (O.taken out.new) page.old page.new
+        (vertex_line format vertices.now.ids.now vertices.now.core.now v)) }
+    ensures part { OnErr result (PassesPart (O.taken out.old) (O.taken out.new) page.old
+        (vertex_line format vertices.now.ids.now vertices.now.core.now v)) }
     ensures cause { HasCause (O.faults out.old) (O.faults out.new) result }
 {
     put_number_line(
@@ -162,8 +164,10 @@ fn put_member<O: Sink>(
 ) -> Result<(), Failed>
     requires same { length vertices.now.ids.now ≡ length vertices.now.core.now }
     requires within { v < length vertices.now.ids.now }
-    ensures passes { OnOk result (PassesOn (O.taken out.old) (O.taken out.new) page.old page.new (member_line_in format least vertices.now.ids.now vertices.now.core.now v)) }
-    ensures part { OnErr result (PassesPart (O.taken out.old) (O.taken out.new) page.old (member_line_in format least vertices.now.ids.now vertices.now.core.now v)) }
+    ensures passes { OnOk result (PassesOn (O.taken out.old) (O.taken out.new) page.old page.new
+        (member_line_in format least vertices.now.ids.now vertices.now.core.now v)) }
+    ensures part { OnErr result (PassesPart (O.taken out.old) (O.taken out.new) page.old
+        (member_line_in format least vertices.now.ids.now vertices.now.core.now v)) }
     ensures cause { HasCause (O.faults out.old) (O.faults out.new) result }
 {
     if least <= vertices.core[v] {
@@ -185,8 +189,10 @@ fn put_edge<O: Sink>(
     requires same { length vertices.now.ids.now ≡ length vertices.now.core.now }
     requires first { edge.0 < length vertices.now.ids.now }
     requires second { edge.1 < length vertices.now.ids.now }
-    ensures passes { OnOk result (PassesOn (O.taken out.old) (O.taken out.new) page.old page.new (edge_line_in format least vertices.now.ids.now vertices.now.core.now edge)) }
-    ensures part { OnErr result (PassesPart (O.taken out.old) (O.taken out.new) page.old (edge_line_in format least vertices.now.ids.now vertices.now.core.now edge)) }
+    ensures passes { OnOk result (PassesOn (O.taken out.old) (O.taken out.new) page.old page.new
+        (edge_line_in format least vertices.now.ids.now vertices.now.core.now edge)) }
+    ensures part { OnErr result (PassesPart (O.taken out.old) (O.taken out.new) page.old
+        (edge_line_in format least vertices.now.ids.now vertices.now.core.now edge)) }
     ensures cause { HasCause (O.faults out.old) (O.faults out.new) result }
 {
     let (u, v) = edge;
@@ -215,8 +221,10 @@ fn put_layer<O: Sink>(
     requires same { length vertices.now.ids.now ≡ length vertices.now.core.now }
     requires one_each { length layer.now ≡ length vertices.now.core.now }
     requires within { v < length vertices.now.ids.now }
-    ensures passes { OnOk result (PassesOn (O.taken out.old) (O.taken out.new) page.old page.new (layer_line_in format vertices.now.ids.now vertices.now.core.now layer.now v)) }
-    ensures part { OnErr result (PassesPart (O.taken out.old) (O.taken out.new) page.old (layer_line_in format vertices.now.ids.now vertices.now.core.now layer.now v)) }
+    ensures passes { OnOk result (PassesOn (O.taken out.old) (O.taken out.new) page.old page.new
+        (layer_line_in format vertices.now.ids.now vertices.now.core.now layer.now v)) }
+    ensures part { OnErr result (PassesPart (O.taken out.old) (O.taken out.new) page.old
+        (layer_line_in format vertices.now.ids.now vertices.now.core.now layer.now v)) }
     ensures cause { HasCause (O.faults out.old) (O.faults out.new) result }
 {
     put_layer_line(
@@ -241,8 +249,10 @@ fn put_at<O: Sink>(
     requires same { length vertices.now.ids.now ≡ length vertices.now.core.now }
     requires fits { Fits (length vertices.now.ids.now) listing.now }
     requires within { place < places listing.now (length vertices.now.ids.now) }
-    ensures passes { OnOk result (PassesOn (O.taken out.old) (O.taken out.new) page.old page.new (line_at format listing.now vertices.now.ids.now vertices.now.core.now place)) }
-    ensures part { OnErr result (PassesPart (O.taken out.old) (O.taken out.new) page.old (line_at format listing.now vertices.now.ids.now vertices.now.core.now place)) }
+    ensures passes { OnOk result (PassesOn (O.taken out.old) (O.taken out.new) page.old page.new
+        (line_at format listing.now vertices.now.ids.now vertices.now.core.now place)) }
+    ensures part { OnErr result (PassesPart (O.taken out.old) (O.taken out.new) page.old
+        (line_at format listing.now vertices.now.ids.now vertices.now.core.now place)) }
     ensures cause { HasCause (O.faults out.old) (O.faults out.new) result }
 {
     match listing {
@@ -267,8 +277,10 @@ fn put_lines<O: Sink>(
 ) -> Result<(), Failed>
     requires same { length vertices.now.ids.now ≡ length vertices.now.core.now }
     requires fits { Fits (length vertices.now.ids.now) listing.now }
-    ensures passes { OnOk result (PassesOn (O.taken out.old) (O.taken out.new) page.old page.new (listing_lines format listing.now vertices.now.ids.now vertices.now.core.now)) }
-    ensures part { OnErr result (PassesPart (O.taken out.old) (O.taken out.new) page.old (listing_lines format listing.now vertices.now.ids.now vertices.now.core.now)) }
+    ensures passes { OnOk result (PassesOn (O.taken out.old) (O.taken out.new) page.old page.new
+        (listing_lines format listing.now vertices.now.ids.now vertices.now.core.now)) }
+    ensures part { OnErr result (PassesPart (O.taken out.old) (O.taken out.new) page.old
+        (listing_lines format listing.now vertices.now.ids.now vertices.now.core.now)) }
     ensures cause { HasCause (O.faults out.old) (O.faults out.new) result }
 {
     for place in 0..listing.places(vertices.ids.len()) {
@@ -288,7 +300,8 @@ pub(crate) fn write_lines<O: Sink>(
     requires same { length vertices.now.ids.now ≡ length vertices.now.core.now }
     requires fits { Fits (length vertices.now.ids.now) listing.now }
     requires empty { page ≡ [] }
-    ensures whole { OnOk result (Appends (O.taken out.old) (O.taken out.new) (listing_lines format listing.now vertices.now.ids.now vertices.now.core.now)) }
+    ensures whole { OnOk result (Appends (O.taken out.old) (O.taken out.new)
+        (listing_lines format listing.now vertices.now.ids.now vertices.now.core.now)) }
     ensures prefix { OnErr result ((n : ℕ) × (n ≤ length (listing_lines format listing.now vertices.now.ids.now vertices.now.core.now))
         × Appends (O.taken out.old) (O.taken out.new) (take n (listing_lines format listing.now vertices.now.ids.now vertices.now.core.now))) }
     ensures cause { HasCause (O.faults out.old) (O.faults out.new) result }
