@@ -1,11 +1,13 @@
-"""From a temporal file to a page and pictures: PYTHONPATH=python python3 examples/python/temporal.py FILE FOLDER [EVERY [WINDOW]]
+"""From a temporal file to a page and pictures: PYTHONPATH=python python3 examples/python/temporal.py FILE FOLDER [EVERY [WINDOW]] [--unix]
 
 Each line of the file is `u v time`, as SNAP has its temporal graphs. FOLDER gets report.html, and where matplotlib is installed sizes.svg,
 degrees.svg, onion.svg and rings.svg of the graph after the last batch, and changes.svg of all batches. EVERY is the length of an interval of
-time, WINDOW how long an edge stays after its last mention; by default there are twelve intervals, and edges stay for good. It needs NumPy.
+time, WINDOW how long an edge stays after its last mention; by default there are twelve intervals, and edges stay for good. With --unix times
+and lengths are seconds, and times are told as dates of UTC. It needs NumPy.
 """
 
-import sys
+import argparse
+from datetime import datetime, timedelta, timezone
 from pathlib import Path
 
 import kcore
@@ -18,6 +20,15 @@ def rows_of(path):
     return [(int(u), int(v), float(time)) for u, v, time in fields]
 
 
+def date_of(time):
+    return datetime.fromtimestamp(time, timezone.utc).replace(tzinfo=None)
+
+
+def told(time):
+    """A time as it is printed: a number in full, and a date to the minute."""
+    return f"{time:%Y-%m-%d %H:%M}" if isinstance(time, datetime) else f"{time:.12g}"
+
+
 def follow(cores, batches):
     """Applies the batches, and prints a line for each: what came and went, and who rose farthest. Returns their results."""
     results = []
@@ -26,7 +37,8 @@ def follow(cores, batches):
         rises = {name: after - (before or 0) for name, (before, after) in result.changes.items()}
         first = max(rises, key=rises.get, default=None)
         rose = f"{first} to {cores[first]}" if first is not None and rises[first] > 0 else "nobody"
-        print(f"{result.begin:g} to {result.end:g}: +{len(batch.insert)} -{len(batch.remove)} top {cores.degeneracy} rose farthest: {rose}")
+        came = f"+{len(batch.insert)} -{len(batch.remove)} top {cores.degeneracy}"
+        print(f"{told(result.begin)} to {told(result.end)}: {came} rose farthest: {rose}")
     return results
 
 
@@ -47,19 +59,27 @@ def draw(edges, results, folder):
 
 
 def main():
-    path, folder = sys.argv[1], Path(sys.argv[2])
-    rows = rows_of(path)
+    words = argparse.ArgumentParser(description=__doc__, formatter_class=argparse.RawDescriptionHelpFormatter)
+    words.add_argument("file", metavar="FILE", type=Path)
+    words.add_argument("folder", metavar="FOLDER", type=Path)
+    words.add_argument("every", metavar="EVERY", type=float, nargs="?")
+    words.add_argument("window", metavar="WINDOW", type=float, nargs="?")
+    words.add_argument("--unix", action="store_true")
+    asked = words.parse_args()
+    rows = rows_of(asked.file)
     times = [time for _, _, time in rows]
     # A little more than a twelfth of the span, so that the last row lies in the twelfth interval.
-    every = float(sys.argv[3]) if len(sys.argv) > 3 else (max(times) - min(times)) / 11.99 or 1
-    window = float(sys.argv[4]) if len(sys.argv) > 4 else None
+    every, window = asked.every or (max(times) - min(times)) / 11.99 or 1, asked.window
+    if asked.unix:
+        rows = [(u, v, date_of(time)) for u, v, time in rows]
+        every, window = timedelta(seconds=every), timedelta(seconds=window) if window else None
     batches = list(kcore.batches(rows, every, window))
     cores = kcore.Cores(names=True)
     results = follow(cores, batches)
     print(f"the numbers are certified: {cores.check()}")
-    folder.mkdir(parents=True, exist_ok=True)
-    (folder / "report.html").write_text(kcore.report((), batches, Path(path).name), encoding="utf-8")
-    draw(cores.to_edges(), results, folder)
+    asked.folder.mkdir(parents=True, exist_ok=True)
+    (asked.folder / "report.html").write_text(kcore.report((), batches, asked.file.name), encoding="utf-8")
+    draw(cores.to_edges(), results, asked.folder)
 
 
 if __name__ == "__main__":

@@ -11,7 +11,7 @@ Examples
 
 from __future__ import annotations
 
-from typing import Any, Iterable, List, Tuple
+from typing import Any, Iterable, List, NamedTuple, Tuple
 
 from . import _forms, _layers, _measures
 from ._graph import Graph
@@ -52,9 +52,11 @@ def sizes(edges: Any, *, ax: Any = None, **words: Any) -> Any:
     counts = numpy.bincount(_measures.numbers(_read(edges, words)))
     members = counts[::-1].cumsum()[::-1]
     numbers = numpy.arange(len(counts))
-    ax.step(numbers, members, where="mid", color="tab:blue", label="vertices of the k-core")
+    steps = _held(members)
+    ax.step(numpy.arange(len(steps)) - 0.5, steps, where="post", color="tab:blue", label="vertices of the k-core")
     ax.bar(numbers, counts, width=0.8, color="tab:orange", label="vertices with core number k")
     ax.set(xlabel="k", ylabel="vertices", yscale="log", ylim=(0.7, 2 * members.max(initial=1)))
+    _tell_counts(ax.yaxis, members.max(initial=1))
     ax.xaxis.get_major_locator().set_params(integer=True)
     ax.legend()
     return ax
@@ -68,7 +70,8 @@ def degrees(edges: Any, *, marked: int = 10, ax: Any = None, **words: Any) -> An
     edges, ax, **words
         As `sizes` takes them.
     marked : int
-        How many vertices are marked and named: those whose rank by degree and rank by core number differ by the greatest factor.
+        How many vertices are marked, and named where there is room: those whose rank by degree and rank by core number differ by the
+        greatest factor.
 
     Returns
     -------
@@ -95,11 +98,13 @@ def degrees(edges: Any, *, marked: int = 10, ax: Any = None, **words: Any) -> An
     ax.scatter(degree[joined], core[joined], s=8, alpha=0.4, linewidths=0, color="tab:blue")
     far = _measures.far_off(core, degree, marked)
     ax.scatter(degree[far], core[far], s=30, facecolors="none", edgecolors="tab:red", label=f"the {len(far)} that are farthest off")
-    for v, name in zip(far, _measures.names(graph, far)):
-        ax.annotate(str(name), (degree[v], core[v]), xytext=(4, 4), textcoords="offset points", fontsize=7)
     ax.set(xlabel="degree", ylabel="core number", xscale="log", yscale="log")
     ax.set(xlim=(0.8, 2.5 * degree.max(initial=1)), ylim=(0.8, 1.5 * core.max(initial=1)))
+    _tell_counts(ax.xaxis, degree.max(initial=1))
+    _tell_counts(ax.yaxis, core.max(initial=1))
     ax.legend(loc="upper left")
+    crowd = numpy.unique(numpy.stack([degree[joined], core[joined]], axis=1), axis=0)
+    _name_apart(ax, [(degree[v], core[v]) for v in far], [_shortened(str(name)) for name in _measures.names(graph, far)], crowd)
     return ax
 
 
@@ -195,6 +200,7 @@ def onion(edges: Any, *, ax: Any = None, **words: Any) -> Any:
     dots = ax.scatter(layer, counts, c=number, s=16, cmap="turbo", linewidths=0, zorder=2)
     ax.figure.colorbar(dots, ax=ax, label="core number", ticks=MaxNLocator(integer=True))
     ax.set(xlabel="layer", ylabel="vertices", yscale="log", ylim=(0.7, 2 * counts.max(initial=1)))
+    _tell_counts(ax.yaxis, counts.max(initial=1))
     ax.xaxis.get_major_locator().set_params(integer=True)
     return ax
 
@@ -249,6 +255,7 @@ def changes(results: Iterable[Any], *, axes: Any = None) -> Any:
     below.step(times, _held(-fell), where="post", color="tab:red", label="fell")
     below.axhline(0, color="grey", linewidth=0.5)
     below.set(xlabel="time", ylabel="vertices")
+    _tell_times(below.xaxis)
     below.legend(loc="upper left", fontsize=7)
     return above, below
 
@@ -279,6 +286,94 @@ def _rose_and_fell(changed: Any) -> Tuple[int, int]:
     """How many of the vertices have a greater number than before, and how many a lesser one. A new one is as if its number had been 0."""
     steps = [now - (before or 0) for before, now in changed.values()]
     return sum(step > 0 for step in steps), sum(step < 0 for step in steps)
+
+
+def _tell_counts(axis: Any, greatest: Any) -> None:
+    """Has an axis of counts tell whole numbers: powers of ten, and of few of them also twice and five times as much."""
+    from matplotlib.ticker import LogLocator, NullFormatter, StrMethodFormatter
+
+    axis.set_major_locator(LogLocator(subs=(1, 2, 5) if greatest < 300 else (1,)))
+    axis.set_major_formatter(StrMethodFormatter("{x:,.0f}"))
+    axis.set_minor_formatter(NullFormatter())
+
+
+def _tell_times(axis: Any) -> None:
+    """Has an axis tell dates shortly, and great numbers in full."""
+    from matplotlib.dates import AutoDateFormatter, ConciseDateFormatter
+    from matplotlib.ticker import ScalarFormatter
+
+    told = axis.get_major_formatter()
+    if isinstance(told, ScalarFormatter):
+        told.set_useOffset(False)
+        told.set_scientific(False)
+        axis.get_major_locator().set_params(nbins=6)
+    elif isinstance(told, AutoDateFormatter):
+        axis.set_major_formatter(ConciseDateFormatter(axis.get_major_locator()))
+
+
+#: Where a name may stand beside its dot, by preference: how far off in points, and on which side.
+_OFFSETS = [
+    (far * right, far * up)
+    for far in (4, 12, 20, 30, 42, 56)
+    for right, up in ((1, 1), (1, -1), (-1, 1), (-1, -1), (0, 1), (0, -1), (1, 0), (-1, 0))
+]
+
+
+#: How a text is aligned that stands to the right of a dot or above it, beside it, or to the left or below.
+_SIDES = {1: ("left", "bottom"), 0: ("center", "center"), -1: ("right", "top")}
+
+
+class _Box(NamedTuple):
+    """A part of a picture, in points."""
+
+    left: float
+    low: float
+    right: float
+    high: float
+
+    def meets(self, other: "_Box") -> bool:
+        return self.left < other.right and other.left < self.right and self.low < other.high and other.low < self.high
+
+    def covers(self, x: Any, y: Any) -> int:
+        """How many of some places lie in it."""
+        return int(((self.left < x) & (x < self.right) & (self.low < y) & (y < self.high)).sum())
+
+    def lies_in(self, other: "_Box") -> bool:
+        return other.left <= self.left and self.right <= other.right and other.low <= self.low and self.high <= other.high
+
+
+def _name_apart(ax: Any, places: List[Tuple[Any, Any]], names: List[str], crowd: Any) -> None:
+    """Writes a name beside each place, or not at all: where no other name, no other of the places and no legend is, and the fewest dots of
+    the crowd are. A line leads to a name that is far off."""
+    # What follows goes by where things lie when the picture is drawn.
+    ax.figure.draw_without_rendering()
+    points = 72 / ax.figure.dpi
+    inside, legend = (_Box(*(it.get_window_extent().extents * points)) for it in (ax.patch, ax.get_legend()))
+    dots = [_Box(x - 3, y - 3, x + 3, y + 3) for x, y in (ax.transData.transform(place) * points for place in places)]
+    crowded = ax.transData.transform(crowd).T * points
+    taken = [legend, *dots]
+    for place, dot, name in zip(places, dots, names):
+        boxes = [(_beside(dot, x, y, name), x, y) for x, y in _OFFSETS]
+        free = [it for it in boxes if it[0].lies_in(inside) and not any(it[0].meets(other) for other in taken)]
+        if free:
+            box, x, y = min(free, key=lambda it: it[0].covers(*crowded))
+            taken.append(box)
+            line = {"arrowstyle": "-", "color": "grey", "linewidth": 0.5, "shrinkA": 0, "shrinkB": 3} if max(abs(x), abs(y)) > 4 else None
+            words = {"ha": _SIDES[(x > 0) - (x < 0)][0], "va": _SIDES[(y > 0) - (y < 0)][1], "fontsize": 7, "parse_math": False}
+            ax.annotate(name, place, xytext=(x, y), textcoords="offset points", arrowprops=line, **words)
+
+
+def _beside(dot: _Box, x: float, y: float, name: str) -> _Box:
+    """Where a name stands that is written so far to the right of a dot and above it, in letters of 7 points."""
+    wide, high = 4.5 * len(name), 8.0
+    left = (dot.left + dot.right) / 2 + x - (wide if x < 0 else wide / 2 if x == 0 else 0)
+    low = (dot.low + dot.high) / 2 + y - (high if y < 0 else high / 2 if y == 0 else 0)
+    return _Box(left, low, left + wide, low + high)
+
+
+def _shortened(name: str) -> str:
+    """A name of at most 24 letters."""
+    return name if len(name) <= 24 else f"{name[:11]}\u2026{name[-12:]}"
 
 
 def _two_axes() -> Any:

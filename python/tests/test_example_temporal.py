@@ -37,6 +37,12 @@ class Example(unittest.TestCase):
             self.assertEqual(files, {"report.html"} | drawn)
             self.assertIn("<title>mails.txt</title>", (Path(folder) / "out" / "report.html").read_text("utf-8"))
 
+    def test_dates(self):
+        with tempfile.TemporaryDirectory() as folder:
+            told = self.run_with(folder, "30", "60", "--unix")
+            self.assertEqual(told[1], "1970-01-01 00:00 to 1970-01-01 00:01: +0 -0 top 2 rose farthest: nobody")
+            self.assertIn('"begin":["1970-01-01 00:00:00","1970-01-01 00:00:30"', (Path(folder) / "out" / "report.html").read_text("utf-8"))
+
     def test_twelve_intervals_by_default(self):
         with tempfile.TemporaryDirectory() as folder:
             self.assertEqual(len([line for line in self.run_with(folder) if " to " in line]), 12)
