@@ -8,6 +8,7 @@ import base64
 import os
 import random
 import shutil
+import subprocess
 import sys
 import tempfile
 import unittest
@@ -152,6 +153,58 @@ class InChromium(unittest.TestCase):
         self.assertFalse(self.one("#tip").is_displayed())
         self.assertTrue(all(element.get_attribute("aria-label") for element in self.all("[role=button]")))
 
+    def rows(self):
+        """All rows of the table, as it is scrolled from its top to its end: the texts of their cells, by the name of the vertex."""
+        script = """const scroller = document.getElementById("scroller"), found = {};
+            const frame = () => new Promise((done) => requestAnimationFrame(() => requestAnimationFrame(done)));
+            for (let top = 0; ; top += scroller.clientHeight) {
+              scroller.scrollTop = top;
+              await frame();
+              for (const row of document.querySelectorAll("#table .row")) {
+                const [name, ...numbers] = [...row.cells].map((cell) => cell.textContent);
+                found[name] = numbers;
+              }
+              if (top + scroller.clientHeight >= scroller.scrollHeight) return found;
+            }"""
+        found = self.browser.execute_script(f"return (async () => {{ {script} }})()")
+        return {name: [int(number) for number in numbers] for name, numbers in found.items()}
+
+    def test_each_shell_in_the_table_has_its_vertices(self):
+        draw = random.Random(9)
+        edges = [(f"v{int(150 * draw.random() ** 2)}", f"v{int(150 * draw.random() ** 2)}") for _ in range(500)]
+        core, layers = kcore.core_numbers(edges), kcore.onion_layers(edges)
+        near = {name: set() for name in core}
+        for u, v in edges:
+            near[u].add(v)
+            near[v].add(u)
+        wanted = {name: [number, len(near[name] - {name}), layers[name]] for name, number in core.items()}
+        self.open(kcore.report(edges))
+        self.assertEqual(self.rows(), wanted)
+        for k in sorted(set(core.values())):
+            self.click(self.one(f"#sizes .hit[data-core='{k}']"))
+            self.assertEqual(self.rows(), {name: row for name, row in wanted.items() if row[0] == k})
+            self.click(self.one("#clear"))
+        heads = {head.get_attribute("data-key"): head.find_element("css selector", "button") for head in self.all("#table th")}
+        for key in ("core", "degree", "layer"):
+            self.click(heads[key])
+            self.assertEqual(self.rows(), wanted)
+        self.one("#search").send_keys("v1")
+        self.assertEqual(self.rows(), {name: row for name, row in wanted.items() if "v1" in name})
+
+    def test_a_page_of_the_command(self):
+        rows = temporal()
+        path, page = self.folder / "mails.txt", self.folder / "mails.html"
+        path.write_text("".join(f"{u} {v} {time}\n" for u, v, time in rows))
+        words = ["report", str(path), "-o", str(page), "--time", "--unix", "--every", "300", "--window", "600"]
+        environment = {**os.environ, "PYTHONPATH": str(Path(kcore.__file__).parents[1])}
+        subprocess.run([sys.executable, "-m", "kcore", *words], env=environment, check=True)
+        self.open(page.read_text("utf-8"))
+        self.assertEqual((self.text("h1"), self.text("#batch-place")), ("mails.txt", "10 of 10"))
+        self.assertTrue(self.text("#batch-told").startswith("1970-01-01 00:45:00 to 1970-01-01 00:50:00: "))
+        last = {frozenset((u, v)) for u, v, time in rows if time >= 2400 and u != v}
+        wanted = kcore.core_numbers([tuple(map(str, pair)) for pair in last])
+        self.assertEqual({name: row[0] for name, row in self.rows().items() if row[0]}, wanted)
+
     def test_the_table_is_sorted_and_searched(self):
         self.open(kcore.report([(f"V{number}", f"V{number * number % 41}") for number in range(60)]))
         heads = {head.get_attribute("data-key"): head for head in self.all("#table th")}
@@ -204,11 +257,10 @@ class InChromium(unittest.TestCase):
                 name, _, numbers = item.text.partition("\n")
                 self.assertEqual(numbers, "{} → {}".format(*results[place].changes[int(name)]))
 
-        shows(29)
         slider = self.one("#batch")
-        slider.send_keys(Keys.ARROW_LEFT, Keys.ARROW_LEFT)
-        shows(27)
-        slider.send_keys(Keys.HOME)
+        for place in range(29, -1, -1):
+            shows(place)
+            slider.send_keys(Keys.ARROW_LEFT)
         shows(0)
         self.assertEqual(len(self.all("#timeline .hit.at")), 1)
         hit = self.all("#timeline .hit")[11]

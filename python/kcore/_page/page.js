@@ -344,10 +344,10 @@
       lines += `M${from[0].toFixed(1)} ${from[1].toFixed(1)}L${to[0].toFixed(1)} ${to[1].toFixed(1)}`;
     }
     svg.append(make("path", { class: "edges", d: lines, opacity: Math.min(Math.max(200 / (edges.length + 1), 0.06), 0.5) }));
-    const grow = drawn.length > 600 ? 0.6 : 2;
+    const [least, grow] = drawn.length > 600 ? [1.4, 0.6] : drawn.length > 100 ? [1.4, 2] : [2.5, 3];
     const listed = drawn.map((vertex, i) => {
       const [cx, cy] = at(i);
-      const dot = make("circle", { class: `dot f${shade(core[vertex])}`, cx, cy, r: 1.4 + grow * Math.log10(1 + degree[vertex]) });
+      const dot = make("circle", { class: `dot f${shade(core[vertex])}`, cx, cy, r: least + grow * Math.log10(1 + degree[vertex]) });
       const own = (list) => [list[vertex], list[vertex]];
       marks.push({ figure: "rings", element: dot, ranges: { core: own(core), degree: own(degree), layer: own(layer) } });
       return { cx, cy, dot, vertex };
