@@ -229,11 +229,13 @@ class Cores:
 
     def insert(self, edges: Any, *, axis: Optional[int] = None, columns: Optional[Sequence[Hashable]] = None) -> Dict[Any, Change]:
         """Adds edges. Ends that are no vertices yet become vertices. What is told is as of `apply`."""
-        return self.apply(insert=edges, axis=axis, columns=columns)
+        changes = self._changed_by_one(edges, 1) if axis is None and columns is None else None
+        return self.apply(insert=edges, axis=axis, columns=columns) if changes is None else changes
 
     def remove(self, edges: Any, *, axis: Optional[int] = None, columns: Optional[Sequence[Hashable]] = None) -> Dict[Any, Change]:
         """Removes edges. An edge that is not there is passed over. What is told is as of `apply`."""
-        return self.apply(remove=edges, axis=axis, columns=columns)
+        changes = self._changed_by_one(edges, 0) if axis is None and columns is None else None
+        return self.apply(remove=edges, axis=axis, columns=columns) if changes is None else changes
 
     def apply(
         self, insert: Any = (), remove: Any = (), *, axis: Optional[int] = None, columns: Optional[Sequence[Hashable]] = None
@@ -283,6 +285,20 @@ class Cores:
             if self._vertices > count:
                 changes.update((self._vertex(place), (None, int(self._core[place]))) for place in range(count, self._vertices))
             return changes
+
+    def _changed_by_one(self, edges: Any, add: int) -> Optional[Dict[Any, Change]]:
+        """Makes the update of one edge, the call that comes most often, and tells what `apply` does. It is not made, and None is told, where
+        the edges are no list of just one tuple of two vertices that are numbers."""
+        if type(edges) is not list or len(edges) != 1 or type(edges[0]) is not tuple or len(edges[0]) != 2 or self._names is not None:
+            return None
+        first, second = edges[0]
+        if type(first) is not int or type(second) is not int:
+            return None
+        with self._lock:
+            if not (0 <= first < self._vertices and 0 <= second < self._vertices):
+                return None
+            made = self._made(array(_lists.CODE, (first, second, add)))
+        return {place: (before, now) for place, before, now in made}
 
     def _made(self, updates: Any) -> List[Tuple[int, int, int]]:
         """Makes updates, and tells each vertex whose core number they changed, as `_changed` does. Raises MemoryError where some are not made."""

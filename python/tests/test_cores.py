@@ -200,6 +200,30 @@ class CoresTest(unittest.TestCase):
         with self.assertRaisesRegex(ValueError, "closed"):
             cores.to_edges()
 
+    def test_one_edge_by_itself_is_as_in_a_batch(self):
+        draw = random.Random(6)
+        for start in ([(v, v + 1) for v in range(30)], [(f"v{v}", f"v{v + 1}") for v in range(30)]):
+            single, batch = kcore.Cores(start), kcore.Cores(start)
+            named = isinstance(start[0][0], str)
+            for _ in range(400):
+                pair = tuple(f"v{end}" if named else end for end in (draw.randrange(34), draw.randrange(34)))
+                add = draw.random() < 0.6
+                found = single.insert([pair]) if add else single.remove([pair])
+                self.assertEqual(found, batch.apply(*(([pair], ()) if add else ((), [pair]))))
+            self.assertEqual((single.to_edges(), single.core_numbers()), (batch.to_edges(), batch.core_numbers()))
+            self.assertTrue(single.check())
+        cores = kcore.Cores([(0, 1)])
+        for wrong, cause in (([(0, -1)], ValueError), ([(0, 2**32)], ValueError), ([(0, 1, 2)], ValueError), ([(0, "a")], TypeError)):
+            with self.assertRaises(cause):
+                cores.insert(wrong)
+        with self.assertRaises(TypeError):
+            cores.insert([(0, 1)], axis=0)
+        self.assertEqual((cores.to_edges(), cores.insert([(True, 2)]), len(cores)), ([(0, 1)], {2: (None, 1)}, 3))
+        cores.close()
+        for call in (cores.insert, cores.remove):
+            with self.assertRaisesRegex(ValueError, "closed"):
+                call([(0, 1)])
+
     def test_threads_take_turns(self):
         cores = kcore.Cores([], vertices=40)
         told = [[] for _ in range(4)]
