@@ -2,13 +2,15 @@
 //!
 //! It only gives [`answer_on`](kc_cores::program::answer_on) the program's arguments, the standard streams and the files of the system, and
 //! ends with the exit code that it answers. `answer_on` says all over any input and sinks. Of the arguments, the files and the streams of the
-//! operating system no contract can say more than that. It stands on `kc_cores`, `kc_io` and `kc_wire`.
+//! operating system no contract can say more than that. It stands on `kc_cores`, `kc_files`, `kc_io` and
+//! `kc_wire`.
 #![tactic(auto)]
 
 use kc_cores::CoresStreams;
 use kc_cores::program::answer_on;
 use kc_cores::std_input::StdInput;
 use kc_cores::std_pipe::StdPipe;
+use kc_files::std_folder::StdFolder;
 use kc_io::std_sink::StdSink;
 use kc_wire::std_wire::StdWire;
 use std::process::ExitCode;
@@ -22,5 +24,6 @@ fn main(rt: HostRuntime) -> ExitCode {
         err: StdSink::new(rt.stderr()),
         wire: StdWire::new(rt.stdin(), rt.stdout()),
     };
-    answer_on(rt.alloc(), env::args(&rt), &mut streams)
+    let mut folder = StdFolder::new(&rt, rt.alloc());
+    answer_on(rt.alloc(), env::args(&rt), &mut streams, &mut folder)
 }

@@ -5,6 +5,7 @@ pub mod Graphs
 pub mod Listed
 pub mod Looked
 pub mod Placing
+pub mod Replaced
 pub mod Replies
 pub mod Sizing
 pub mod Stopping

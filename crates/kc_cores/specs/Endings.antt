@@ -11,7 +11,7 @@ use Rattle.kc_cores.specs.CheckEnded.{certificate_meaning}
 use Rattle.kc_cores.specs.CoresEnded.{IsUnopenedLine}
 use Rattle.kc_cores.specs.Sentences.{GraphRefusal, no_memory_line, read_fault_line, refused_line, write_fault_line}
 use Rattle.kc_cores.specs.Verdicts.{claim_refused_line, fault_line, no_line}
-use Rattle.kc_cores.specs.Wishes.{Asks, Checks, GraphText, MayReply, Query, Watches, Wish, is_shown}
+use Rattle.kc_cores.specs.Wishes.{Asks, Checks, GraphText, MayReply, Query, Saves, Watches, Wish, is_shown}
 use Rattle.kc_cores.specs.declared.CoresStatus.{CoresStatus}
 use Rattle.kc_cores.specs.declared.CoresStatus.TheVariants as status
 use Rattle.kc_cores.specs.declared.ending.Ending.{Ending}
@@ -158,5 +158,6 @@ query_of request = record { task = request.task; graph = text_of request.graph; 
 -- the request is what words ask for
 abbrev pub IsRequestFor : Wanted → Wish → Type 0
 IsRequestFor (wanted.Lines request) wish = wish ≡ Asks (query_of request)
+IsRequestFor (wanted.Save request) wish = wish ≡ Saves request.file.now (query_of request.lines)
 IsRequestFor (wanted.Check request) wish = wish ≡ Checks request.certificate.now (text_of request.graph)
 IsRequestFor (wanted.Watch options) wish = wish ≡ Watches options

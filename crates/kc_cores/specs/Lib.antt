@@ -6,6 +6,7 @@ pub mod Inputs
 pub mod Lines
 pub mod Numbers
 pub mod Outputs
+pub mod Saved
 pub mod Sentences
 pub mod Skips
 pub mod Verdicts

@@ -53,9 +53,13 @@ with_dialect app =
 abbrev pub format_option : Rule
 format_option = value_option (codes "format")
 
+-- `--output FILE`
+abbrev pub output_option : Rule
+output_option = value_option (codes "output")
+
 -- the command of a task, with what is said of its output, without the name of the file
 abbrev pub writing_command : Text → App
-writing_command name = with_rule (quiet_command name) format_option
+writing_command name = with_rule (with_rule (quiet_command name) format_option) output_option
 
 -- the command of a task, which takes the name of a file
 abbrev pub task_command : Text → App
@@ -139,10 +143,12 @@ pub record Query : Type 0 where
   pub format : Format
   pub quiet : Bool
 
--- What words ask for: a task for a graph; or the check of a certificate of this name for the graph of a text; or the answer to a stream. Or
--- they ask for help or the version, or are not right: then there is a reply of one of these kinds, as those of `clap`.
+-- What words ask for: a task for a graph; or the same, whose lines become the file of this name; or the check of a certificate of this name
+-- for the graph of a text; or the answer to a stream. Or they ask for help or the version, or are not right: then there is a reply of one of
+-- these kinds, as those of `clap`.
 pub data Wish : Type 0 where
   Asks : Query → Wish
+  Saves : Text → Query → Wish
   Checks : Text → GraphText → Wish
   Watches : WatchOptions → Wish
   Replies : Kinds → Wish
@@ -289,12 +295,18 @@ abbrev pub format_in : Option Text → Option Format
 format_in None = Some Tabs
 format_in (Some text) = format_of text
 
--- what a command for a task and a text asks for, by the format of its lines
-abbrev pub wish_for : Option Task → Option GraphText → Option Format → Bool → Wish
-wish_for None graph format quiet = Replies (InvalidSubcommand ∷ [])
-wish_for (Some task) None format quiet = Replies (ValueValidation ∷ [])
-wish_for (Some task) (Some graph) None quiet = Replies (ValueValidation ∷ [])
-wish_for (Some task) (Some graph) (Some format) quiet = Asks (record { task = task; graph = graph; format = format; quiet = quiet })
+-- the task of a command whose lines become the file of this name, or are written where none is named
+abbrev pub wish_to : Option Text → Query → Wish
+wish_to None query = Asks query
+wish_to (Some name) query = Saves name query
+
+-- what a command for a task and a text asks for, by the format of its lines and the file that they become
+abbrev pub wish_for : Option Task → Option GraphText → Option Format → Option Text → Bool → Wish
+wish_for None graph format output quiet = Replies (InvalidSubcommand ∷ [])
+wish_for (Some task) None format output quiet = Replies (ValueValidation ∷ [])
+wish_for (Some task) (Some graph) None output quiet = Replies (ValueValidation ∷ [])
+wish_for (Some task) (Some graph) (Some format) output quiet =
+    wish_to output (record { task = task; graph = graph; format = format; quiet = quiet })
 
 -- what the command `check` asks for, by the name of the certificate and the text of a graph
 abbrev pub check_wish : Option Text → Option GraphText → Wish
@@ -306,7 +318,8 @@ check_wish (Some name) (Some graph) = Checks name graph
 abbrev pub wish_about : Text → List Row → Wish
 wish_about name rows =
     if bytes_eq name (codes "check") then check_wish (first_of (codes "CERTIFICATE") rows) (text_in rows)
-    else wish_for (task_in name rows) (text_in rows) (format_in (first_of (codes "format") rows)) (is_set (first_of (codes "quiet") rows))
+    else wish_for (task_in name rows) (text_in rows) (format_in (first_of (codes "format") rows)) (file_named (first_of (codes "output") rows))
+    (is_set (first_of (codes "quiet") rows))
 
 -- what is shown of core numbers, by this word
 abbrev pub show_of : Text → Option Show
@@ -353,6 +366,7 @@ is_shown _ = false
 -- a reply that is what was asked for, or one that is not, is among those that there may be
 abbrev pub MayReply : Bool → Wish → Type 0
 MayReply shown (Asks query) = ⊥
+MayReply shown (Saves name query) = ⊥
 MayReply shown (Checks name graph) = ⊥
 MayReply shown (Watches options) = ⊥
 MayReply shown (Replies kinds) = (kind : ErrorKind) × IsAmong kind kinds × (is_shown kind ≡ shown)

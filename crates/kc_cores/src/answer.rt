@@ -1,21 +1,24 @@
 //! The top call.
 ghost use Rattle.std.specs.Prelude.{◌≡◌, ℕ, List, IfErr, IfOk, map, string_bytes};
-ghost use Rattle.kc_cores.specs.CheckEnded.{CheckEnded, EndsAsAsked};
+ghost use Rattle.kc_cores.specs.CheckEnded.{CheckEnded};
 ghost use Rattle.kc_cores.specs.CoresEnded.{CoresEnded, ToldLine, done_line};
-ghost use Rattle.kc_cores.specs.Endings.{RepliesTo, line_of, message_text, query_of, text_of};
+ghost use Rattle.kc_cores.specs.Endings.{RepliesTo, line_of, query_of, text_of};
+ghost use Rattle.kc_cores.specs.Saved.{RunEnded};
 ghost use Rattle.kc_cores.specs.Sentences.{no_memory_line};
 ghost use Rattle.kc_cores.specs.Wishes.{Asks, Wish, wish_of};
 
 use crate::checking::{refute, say, verdict_on};
-use crate::ending::{Ending, finish};
+use crate::ending::{Ending, done_message, finish};
 use crate::input::FileInput;
 use crate::message::Message;
 use crate::pipe::PipeSink;
 use crate::prepared::{Prepared, prepare};
 use crate::request::{CheckRequest, Request, Wanted};
+use crate::saving::save;
 use crate::watching::watch;
 use crate::words::{Reply, request_of};
 use crate::{CoresStatus, CoresStreams};
+use kc_files::folder::Folder;
 use kc_io::sink::{Sink, write_all};
 use kc_wire::wire::Wire;
 use std::alloc::Global;
@@ -73,17 +76,6 @@ fn show<I: FileInput, C, O: PipeSink, E, L>(
     }
 }
 
-/// The line of a run that is done, or nothing where it is quiet.
-fn done_message(quiet: bool, summary: String) -> Message
-    ensures { message_text result ≡ done_line quiet (string_bytes summary) }
-{
-    if quiet {
-        Message::Fixed("")
-    } else {
-        Message::Made(summary)
-    }
-}
-
 /// All of a run for a task but its line.
 fn list<I: FileInput, C, O: PipeSink, E, L>(
     alloc: Global,
@@ -130,19 +122,21 @@ fn check<I: FileInput, C: FileInput, O: PipeSink, E, L>(
 }
 
 /// All of a run but its line.
-fn work<W: AsStr, I: FileInput, C: FileInput, O: PipeSink, E, L: Wire>(
+fn work<W: AsStr, I: FileInput, C: FileInput, O: PipeSink, E, L: Wire, P: Folder>(
     alloc: Global,
     words: &[W],
     streams: &mut CoresStreams<I, C, O, E, L>,
+    folder: &mut P,
 ) -> Ending
-    ensures ended { EndsAsAsked I.Source I.behind C.Source C.behind O.Sink O.gone L.Wire (wish_of (map W.text words.now)) result.status
+    ensures ended { RunEnded I.Source I.behind C.Source C.behind O.Sink O.gone L.Wire P.holds P.failed (wish_of (map W.text words.now)) result.status
         (line_of result) streams.old.input streams.new.input streams.old.certificate streams.new.certificate streams.old.out streams.new.out
-        streams.old.wire streams.new.wire }
+        streams.old.wire streams.new.wire folder.old folder.new }
     ensures err { streams.new.err ≡ streams.old.err }
 {
     match request_of(alloc, words) {
         Err(reply) => show(reply, streams),
         Ok(Wanted::Lines(request)) => list(alloc, request, streams),
+        Ok(Wanted::Save(request)) => save(alloc, request, &mut streams.input, folder),
         Ok(Wanted::Check(request)) => check(alloc, request, streams),
         Ok(Wanted::Watch(options)) => watch(alloc, options, &mut streams.wire),
     }
@@ -151,9 +145,12 @@ fn work<W: AsStr, I: FileInput, C: FileInput, O: PipeSink, E, L: Wire>(
 /// Reads the graph that `words` name, from the input of `streams`, and writes to `out` the lines that they ask for. Then it writes one
 /// line to `err`: the summary of the graph where all was written, and else what was found wrong. Or it checks the certificate that they
 /// name for that graph, writes `yes`, or `no` and the id that is at fault, and then what is wrong with it. Or it answers the stream of
-/// the wire, and writes what is wrong with it, if a line is refused.
+/// the wire, and writes what is wrong with it, if a line is refused. Or the lines become a file of `folder`, and nothing goes to `out`.
 ///
-/// `words` are those after the program's name. Its clause has the line and two records. The one is `CheckEnded` for a check, and the wire is
+/// `words` are those after the program's name. Its clause has the line and two records. The one is `SaveEnded` where the lines become a file,
+/// and all but the input and the folder is as it was. At `Done` the file has just the lines for the graph that the bytes mean, and other files
+/// stay. At `WriteFault` all files are as they were, the folder's count of failed calls rose, and the line tells why. At each other status
+/// there is no graph, and the folder is as it was. Else the folder is as it was, and the record is `CheckEnded` for a check, and the wire is
 /// as it was:
 ///
 /// - `did`: at `Certified` the claims of the certificate show the core numbers of the graph, and the sink took `yes`. At `Uncertified` they
@@ -200,19 +197,20 @@ fn work<W: AsStr, I: FileInput, C: FileInput, O: PipeSink, E, L: Wire>(
 ///
 /// // Streams in memory, as at `answer_in_memory`. The second line of the input has one id.
 /// let mut streams = CoresStreams { input, certificate, out, err, wire };
-/// let status = answer(alloc, &["numbers"], &mut streams); // Refused
+/// let status = answer(alloc, &["numbers"], &mut streams, &mut folder); // Refused
 /// let code = exit_number(status); // 3
 /// let lines = streams.out.taken(); // none
 /// ```
-pub fn answer<W: AsStr, I: FileInput, C: FileInput, O: PipeSink, E: Sink, L: Wire>(
+pub fn answer<W: AsStr, I: FileInput, C: FileInput, O: PipeSink, E: Sink, L: Wire, P: Folder>(
     alloc: Global,
     words: &[W],
     streams: &mut CoresStreams<I, C, O, E, L>,
+    folder: &mut P,
 ) -> CoresStatus
-    ensures { (line : List ℕ) × EndsAsAsked I.Source I.behind C.Source C.behind O.Sink O.gone L.Wire (wish_of (map W.text words.now)) result line
-        streams.old.input streams.new.input streams.old.certificate streams.new.certificate streams.old.out streams.new.out
-        streams.old.wire streams.new.wire × ToldLine E.Sink line streams.old.err streams.new.err }
+    ensures { (line : List ℕ) × RunEnded I.Source I.behind C.Source C.behind O.Sink O.gone L.Wire P.holds P.failed (wish_of (map W.text words.now))
+        result line streams.old.input streams.new.input streams.old.certificate streams.new.certificate streams.old.out streams.new.out
+        streams.old.wire streams.new.wire folder.old folder.new × ToldLine E.Sink line streams.old.err streams.new.err }
 {
-    let ending = work(alloc, words, streams);
+    let ending = work(alloc, words, streams, folder);
     finish(&mut streams.err, ending)
 }

@@ -250,7 +250,7 @@ fn dialect_by(
 }
 
 /// The file that a word names: `-` is standard input.
-fn file_named<'a>(word: Option<&'a str>) -> Option<&'a str>
+pub(crate) fn file_named<'a>(word: Option<&'a str>) -> Option<&'a str>
     ensures { option_map (λ t. t.now) result ≡ file_named (option_map (λ t. t.now) word.entry) }
 {
     match word {

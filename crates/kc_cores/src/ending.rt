@@ -1,9 +1,9 @@
 //! How a run ends: its status, and the line about it.
 ghost use Rattle.std.specs.Prelude.{◌≡◌, ◌++◌, [], IfOk, option_map, string_bytes};
-ghost use Rattle.kc_cores.specs.Endings.{IsCut, TellsRefusal, line_of, text_of};
+ghost use Rattle.kc_cores.specs.Endings.{IsCut, TellsRefusal, line_of, message_text, text_of};
 ghost use Rattle.kc_cores.specs.Sentences.{at_column, at_place, in_file, refused_front, refused_line, no_memory_line, read_fault_line};
 ghost use Rattle.kc_cores.specs.Sentences.{unopened_line, write_fault_line};
-ghost use Rattle.kc_cores.specs.CoresEnded.{IsUnopenedLine, ToldLine};
+ghost use Rattle.kc_cores.specs.CoresEnded.{IsUnopenedLine, ToldLine, done_line};
 
 use crate::CoresStatus;
 use crate::input::FileFault;
@@ -88,6 +88,17 @@ impl Ending {
             return Ending::reader_gone();
         }
         Ending::unwritten()
+    }
+}
+
+/// The line of a run that is done, or nothing where it is quiet.
+pub(crate) fn done_message(quiet: bool, summary: String) -> Message
+    ensures { message_text result ≡ done_line quiet (string_bytes summary) }
+{
+    if quiet {
+        Message::Fixed("")
+    } else {
+        Message::Made(summary)
     }
 }
 

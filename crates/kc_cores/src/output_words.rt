@@ -1,7 +1,7 @@
-//! The words about what is written: its format.
+//! The words about what is written: its format, and the file that it becomes.
 ghost use Rattle.std.specs.Prelude.{◌≡◌, false, option_map};
 ghost use Rattle.clap.specs.Walk.{rule_of};
-ghost use Rattle.kc_cores.specs.Wishes.{format_in, format_of, format_option};
+ghost use Rattle.kc_cores.specs.Wishes.{format_in, format_of, format_option, output_option};
 
 use crate::dialect_words::value_option;
 use clap::Arg;
@@ -18,6 +18,19 @@ pub(crate) fn format_option<'a>(alloc: Global) -> Arg<'a>
         "format",
         "FORMAT",
         "How the lines are written: tsv, with tabs between the numbers, or json, an object a line",
+    )
+}
+
+/// The option `--output FILE`.
+pub(crate) fn output_option<'a>(alloc: Global) -> Arg<'a>
+    ensures rule { rule_of result ≡ output_option }
+    ensures local { result.global ≡ false }
+{
+    value_option(
+        alloc,
+        "output",
+        "FILE",
+        "The file that the lines become, once all are written; where a fault comes before, it stays as it is",
     )
 }
 

@@ -35,10 +35,18 @@ pub(crate) struct CheckRequest<'a> {
     pub(crate) graph: NamedText<'a>,
 }
 
+/// A task whose lines become a file.
+#[derive(Clone, Copy, Debug)]
+pub(crate) struct SaveRequest<'a> {
+    pub(crate) file: &'a str,
+    pub(crate) lines: Request<'a>,
+}
+
 /// What words ask for.
 #[derive(Clone, Copy, Debug)]
 pub(crate) enum Wanted<'a> {
     Lines(Request<'a>),
+    Save(SaveRequest<'a>),
     Check(CheckRequest<'a>),
     /// The answer to a stream.
     Watch(WatchOptions),

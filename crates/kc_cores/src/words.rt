@@ -12,12 +12,12 @@ ghost use Rattle.kc_cores.specs.Wishes.{Replies, bare_command, certificate_comma
 ghost use Rattle.kc_cores.specs.Wishes.{cores_command, edges_flag};
 ghost use Rattle.kc_cores.specs.Wishes.{is_set, level_in, members_command, members_in, members_task, quiet_command, quiet_flag};
 ghost use Rattle.kc_cores.specs.Wishes.{options_in, task_command, task_in, watch_wish, wish_about, wish_by, wish_for, wish_in, wish_of, with_cores};
-ghost use Rattle.kc_cores.specs.Wishes.{with_tasks, writing_command};
-ghost use Rattle.kc_cores.specs.Endings.{IsReplyFor, IsRequestFor, RepliesTo, text_of};
+ghost use Rattle.kc_cores.specs.Wishes.{wish_to, with_tasks, writing_command};
+ghost use Rattle.kc_cores.specs.Endings.{IsReplyFor, IsRequestFor, RepliesTo, query_of, text_of};
 
-use crate::dialect_words::{number_of, text_in, with_dialect};
-use crate::output_words::{format_in, format_option};
-use crate::request::{CheckRequest, NamedText, Request, Task, Wanted};
+use crate::dialect_words::{file_named, number_of, text_in, with_dialect};
+use crate::output_words::{format_in, format_option, output_option};
+use crate::request::{CheckRequest, NamedText, Request, SaveRequest, Task, Wanted};
 use crate::watch_words::{options_of, show_in, watch_command};
 use clap::error::ErrorKind;
 use clap::{Arg, ArgAction, ArgMatches, Command, Error};
@@ -89,7 +89,7 @@ fn writing_command<'a>(
     ensures local { IfOk result (λ made. (out-Command made).has_globals ≡ false) }
 {
     let command = quiet_command(alloc, name, about, example)?;
-    command.arg(format_option(alloc))
+    command.arg(format_option(alloc))?.arg(output_option(alloc))
 }
 
 /// The command of a task, with one line of example in its help.
@@ -359,16 +359,29 @@ fn wrong_value(alloc: Global) -> Reply
     }
 }
 
-/// What a command for a task and a text asks for, by the format of its lines.
+/// The lines of a task as they are written, or as the file of this name.
+fn wanted_to<'a>(output: Option<&'a str>, lines: Request<'a>) -> Wanted<'a>
+    ensures { IsRequestFor result (wish_to (option_map (λ t. t.now) output.entry) (query_of lines.entry)) }
+{
+    match output {
+        None => Wanted::Lines(lines),
+        Some(file) => Wanted::Save(SaveRequest { file, lines }),
+    }
+}
+
+/// What a command for a task and a text asks for, by the format of its lines and the file that they become.
 fn request_for<'a>(
     alloc: Global,
     task: Option<Task>,
     graph: Option<NamedText<'a>>,
     format: Option<Format>,
+    output: Option<&'a str>,
     quiet: bool,
 ) -> Result<Wanted<'a>, Reply>
-    ensures asks { IfOk result (λ wanted. IsRequestFor wanted (wish_for task (option_map text_of graph.entry) format quiet)) }
-    ensures replies { IfErr result (λ reply. RepliesTo reply (wish_for task (option_map text_of graph.entry) format quiet)) }
+    ensures asks { IfOk result (λ wanted. IsRequestFor wanted
+        (wish_for task (option_map text_of graph.entry) format (option_map (λ t. t.now) output.entry) quiet)) }
+    ensures replies { IfErr result (λ reply. RepliesTo reply
+        (wish_for task (option_map text_of graph.entry) format (option_map (λ t. t.now) output.entry) quiet)) }
 {
     let Some(task) = task else {
         return Err(no_command(alloc));
@@ -379,12 +392,13 @@ fn request_for<'a>(
     let Some(format) = format else {
         return Err(wrong_value(alloc));
     };
-    Ok(Wanted::Lines(Request {
+    let lines = Request {
         task,
         graph,
         format,
         quiet,
-    }))
+    };
+    Ok(wanted_to(output, lines))
 }
 
 /// What the command `check` asks for, by the name of the certificate and the text of a graph.
@@ -418,7 +432,8 @@ fn wanted_of<'a>(alloc: Global, name: &str, found: &ArgMatches<'a>) -> Result<Wa
     let task = task_in(name, found);
     let quiet = is_set(found.get_str("quiet"));
     let format = format_in(found.get_str("format"));
-    request_for(alloc, task, graph, format, quiet)
+    let output = file_named(found.get_str("output"));
+    request_for(alloc, task, graph, format, output, quiet)
 }
 
 /// What a stream is to be answered, by the matches of the command `watch`.

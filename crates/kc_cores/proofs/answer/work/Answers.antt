@@ -1,41 +1,71 @@
--- A reply, a listing, a check and the answer to a stream each end as the words ask for.
+-- A reply, a listing, a file, a check and the answer to a stream each end as the words ask for.
 use Rattle.std.proofs.Common.{map, refl}
 use Rattle.kc_cores.specs.Endings.{line_of, query_of, text_of}
 use Rattle.kc_cores.specs.Wishes.{wish_of}
+use Rattle.kc_cores.proofs.Replaced.{RunEnded-asked, RunEnded-reply, RunEnded-save, not_saved}
 use Rattle.kc_cores.proofs.Checked.{EndsAsAsked-check, EndsAsAsked-lines, EndsAsAsked-reply, EndsAsAsked-watch}
 use Rattle.kc_cores.proofs.answer.work.Goals as goal
 
 pub returns-in-Err-clause-ended : goal.returns-in-Err-clause-ended
 returns-in-Err-clause-ended g c =
+    let ended =
     EndsAsAsked-reply g.I.Source g.I.FileInput.behind g.C.Source g.C.FileInput.behind g.O.Sink g.O.PipeSink.gone
     g.L.Wire (wish_of (map g.W.AsStr.text c.args.words.now)) c.in-Err.reply c.show.result.status (line_of c.show.result) c.args.streams.now.input
     c.show.new.streams.input c.args.streams.now.certificate c.show.new.streams.certificate c.args.streams.now.out c.show.new.streams.out
     c.args.streams.now.wire c.show.new.streams.wire c.in-Err.ensures.replies
     (c.show.ensures.ended (wish_of (map g.W.AsStr.text c.args.words.now)) c.in-Err.ensures.replies) c.show.ensures.certificate
-    c.show.ensures.wire c.show.ensures.memory
+    c.show.ensures.wire c.show.ensures.memory in
+    RunEnded-reply g.I.Source g.I.FileInput.behind g.P.Folder.holds g.P.Folder.failed g.C.Source g.C.FileInput.behind g.O.Sink g.O.PipeSink.gone g.L.Wire
+    (wish_of (map g.W.AsStr.text c.args.words.now)) c.in-Err.reply c.show.result.status (line_of c.show.result) c.args.streams.now.input c.show.new.streams.input
+    c.args.streams.now.certificate c.show.new.streams.certificate c.args.streams.now.out c.show.new.streams.out c.args.streams.now.wire c.show.new.streams.wire
+    c.args.folder.now c.args.folder.now c.in-Err.ensures.replies ended c.show.ensures.certificate c.show.ensures.wire refl c.show.ensures.memory
 
 pub returns-in-Ok-Lines-clause-ended : goal.returns-in-Ok-Lines-clause-ended
 returns-in-Ok-Lines-clause-ended g c =
     let asks = rw c.in-Ok-Lines.field-0-is at c.in-Ok-Lines.ensures.asks in
+    let ended =
     EndsAsAsked-lines g.I.Source g.I.FileInput.behind g.C.Source g.C.FileInput.behind g.O.Sink g.O.PipeSink.gone
     g.L.Wire (wish_of (map g.W.AsStr.text c.args.words.now)) (query_of c.in-Ok-Lines.request) c.list.result.status
     (line_of c.list.result) c.args.streams.now.input c.list.new.streams.input c.args.streams.now.certificate c.list.new.streams.certificate
     c.args.streams.now.out c.list.new.streams.out c.args.streams.now.wire c.list.new.streams.wire asks c.list.ensures.ended
-    c.list.ensures.certificate c.list.ensures.wire
+    c.list.ensures.certificate c.list.ensures.wire in
+    RunEnded-asked g.I.Source g.I.FileInput.behind g.P.Folder.holds g.P.Folder.failed g.C.Source g.C.FileInput.behind g.O.Sink g.O.PipeSink.gone g.L.Wire
+    (wish_of (map g.W.AsStr.text c.args.words.now)) c.list.result.status (line_of c.list.result) c.args.streams.now.input c.list.new.streams.input
+    c.args.streams.now.certificate c.list.new.streams.certificate c.args.streams.now.out c.list.new.streams.out c.args.streams.now.wire c.list.new.streams.wire
+    c.args.folder.now c.args.folder.now (not_saved _ _ asks (λ name query e. absurd (cc))) ended refl
+
+pub returns-in-Ok-Save-clause-ended : goal.returns-in-Ok-Save-clause-ended
+returns-in-Ok-Save-clause-ended g c =
+    let asks = rw c.in-Ok-Save.field-0-is at c.in-Ok-Save.ensures.asks in
+    RunEnded-save g.I.Source g.I.FileInput.behind g.P.Folder.holds g.P.Folder.failed g.C.Source g.C.FileInput.behind g.O.Sink g.O.PipeSink.gone g.L.Wire
+    (wish_of (map g.W.AsStr.text c.args.words.now)) c.in-Ok-Save.request.file.now (query_of c.in-Ok-Save.request.lines) c.save.result.status
+    (line_of c.save.result) c.args.streams.now.input c.save.new.input c.args.streams.now.certificate c.args.streams.now.certificate
+    c.args.streams.now.out c.args.streams.now.out c.args.streams.now.wire c.args.streams.now.wire c.args.folder.now c.save.new.folder
+    asks c.save.ensures refl refl refl
 
 pub returns-in-Ok-Check-clause-ended : goal.returns-in-Ok-Check-clause-ended
 returns-in-Ok-Check-clause-ended g c =
     let asks = rw c.in-Ok-Check.field-0-is at c.in-Ok-Check.ensures.asks in
+    let ended =
     EndsAsAsked-check g.I.Source g.I.FileInput.behind g.C.Source g.C.FileInput.behind g.O.Sink g.O.PipeSink.gone
     g.L.Wire (wish_of (map g.W.AsStr.text c.args.words.now)) c.in-Ok-Check.request.certificate.now (text_of c.in-Ok-Check.request.graph) c.check.result.status
     (line_of c.check.result) c.args.streams.now.input c.check.new.streams.input c.args.streams.now.certificate c.check.new.streams.certificate
     c.args.streams.now.out c.check.new.streams.out c.args.streams.now.wire c.check.new.streams.wire asks c.check.ensures.ended
-    c.check.ensures.wire
+    c.check.ensures.wire in
+    RunEnded-asked g.I.Source g.I.FileInput.behind g.P.Folder.holds g.P.Folder.failed g.C.Source g.C.FileInput.behind g.O.Sink g.O.PipeSink.gone g.L.Wire
+    (wish_of (map g.W.AsStr.text c.args.words.now)) c.check.result.status (line_of c.check.result) c.args.streams.now.input c.check.new.streams.input
+    c.args.streams.now.certificate c.check.new.streams.certificate c.args.streams.now.out c.check.new.streams.out c.args.streams.now.wire c.check.new.streams.wire
+    c.args.folder.now c.args.folder.now (not_saved _ _ asks (λ name query e. absurd (cc))) ended refl
 
 pub returns-in-Ok-Watch-clause-ended : goal.returns-in-Ok-Watch-clause-ended
 returns-in-Ok-Watch-clause-ended g c =
     let asks = rw c.in-Ok-Watch.field-0-is at c.in-Ok-Watch.ensures.asks in
+    let ended =
     EndsAsAsked-watch g.I.Source g.I.FileInput.behind g.C.Source g.C.FileInput.behind g.O.Sink g.O.PipeSink.gone
     g.L.Wire (wish_of (map g.W.AsStr.text c.args.words.now)) c.in-Ok-Watch.options c.watch.result.status (line_of c.watch.result) c.args.streams.now.input
     c.args.streams.now.input c.args.streams.now.certificate c.args.streams.now.certificate c.args.streams.now.out c.args.streams.now.out
-    c.args.streams.now.wire c.watch.new.wire asks c.watch.ensures refl refl refl
+    c.args.streams.now.wire c.watch.new.wire asks c.watch.ensures refl refl refl in
+    RunEnded-asked g.I.Source g.I.FileInput.behind g.P.Folder.holds g.P.Folder.failed g.C.Source g.C.FileInput.behind g.O.Sink g.O.PipeSink.gone g.L.Wire
+    (wish_of (map g.W.AsStr.text c.args.words.now)) c.watch.result.status (line_of c.watch.result) c.args.streams.now.input c.args.streams.now.input
+    c.args.streams.now.certificate c.args.streams.now.certificate c.args.streams.now.out c.args.streams.now.out c.args.streams.now.wire c.watch.new.wire
+    c.args.folder.now c.args.folder.now (not_saved _ _ asks (λ name query e. absurd (cc))) ended refl

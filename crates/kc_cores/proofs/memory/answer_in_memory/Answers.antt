@@ -4,7 +4,9 @@ use Rattle.kc_text.specs.Meaning.{Refuses}
 use Rattle.kc_text.specs.declared.kind.Kind.{Kind}
 use Rattle.kc_cores.specs.Answers.{IsRefusedBy, IsTextFor, graph_meaning}
 use Rattle.kc_cores.specs.CoresEnded.{IsLineAt, TookAt, given_bytes}
-use Rattle.kc_cores.specs.Inputs.{bytes_behind}
+use Rattle.kc_cores.specs.Inputs.{bytes_behind, known_bytes}
+use Rattle.kc_files.specs.Folders.{FolderState, held_in}
+use Rattle.kc_cores.specs.Saved.{SavedAt}
 use Rattle.kc_cores.specs.Wishes.{Asks, Query, Wish, wish_of}
 use Rattle.kc_cores.specs.declared.CoresStatus.{CoresStatus}
 use Rattle.kc_cores.specs.declared.CoresStatus.TheVariants as status
@@ -38,13 +40,33 @@ refused-in end wish query bytes a b line known is asks here took says =
 
 pub returns-clause-done : goal.returns-clause-done
 returns-clause-done g c = λ query bytes asks here end.
-    let ended = c.answer.ensures.1.other (λ name at e. absurd (cc)) (λ options e. absurd (cc)) in
+    let run = c.answer.ensures.1.asked (λ name q e. absurd (cc)) in
+    let ended = run.0.other (λ name at e. absurd (cc)) (λ options e. absurd (cc)) in
     done-in c.answer.result (wish_of (map g.W.AsStr.text c.args.words.now)) query bytes c.args.streams.now.out.sink.taken
     c.answer.new.streams.out.sink.taken (λ w. given_bytes (λ i. Some i.source.left) bytes_behind w c.args.streams.now.input) end asks here ended.0.took
 
 pub returns-clause-refused : goal.returns-clause-refused
 returns-clause-refused g c = λ query bytes asks here end.
-    let ended = c.answer.ensures.1.other (λ name at e. absurd (cc)) (λ options e. absurd (cc)) in
+    let run = c.answer.ensures.1.asked (λ name q e. absurd (cc)) in
+    let ended = run.0.other (λ name at e. absurd (cc)) (λ options e. absurd (cc)) in
     refused-in c.answer.result (wish_of (map g.W.AsStr.text c.args.words.now)) query bytes c.args.streams.now.out.sink.taken
     c.answer.new.streams.out.sink.taken c.answer.ensures.0 (λ w. given_bytes (λ i. Some i.source.left) bytes_behind w c.args.streams.now.input) end asks here
     ended.0.took ended.0.line
+
+-- the text of a file that was saved, of bytes that are known
+saved-in : (end : CoresStatus) (query : Query) (bytes name line : List ℕ) (known left : Option (List ℕ)) (f f' : ℕ) (p p' : FolderState)
+    → end ≡ status.Done → known ≡ Some bytes → SavedAt held_in (λ s. s.failed) end name query known left line f f' p p'
+    → (text : List ℕ) × (summary : List ℕ) × IsTextFor query bytes text summary × (held_in p' name ≡ Some (Some text))
+saved-in end query bytes name line known left f f' p p' is here saved =
+    let ((text, summary, (all, same, is_text), told, has), others, read, faultless, kept) =
+    subst (λ (e : CoresStatus). SavedAt held_in (λ s. s.failed) e name query known left line f f' p p') is saved in
+    let equal : all ≡ bytes = subst (λ (k : Option (List ℕ)). IfSome k (λ x. all ≡ x)) here same in
+    (text, summary, subst (λ (x : List ℕ). IsTextFor query x text summary) equal is_text, ap (λ (b : Option (List ℕ)). Some b) has)
+
+pub returns-clause-saved : goal.returns-clause-saved
+returns-clause-saved g c = λ name query bytes asks here end.
+    let (saved, certificate, out, wire) = c.answer.ensures.1.save name query asks in
+    let before = c.args.streams.now.input in
+    let after = c.answer.new.streams.input in
+    saved-in c.answer.result query bytes name c.answer.ensures.0 (known_bytes (λ i. Some i.source.left) bytes_behind query.graph.file before)
+    (Some after.source.left) before.failed after.failed c.args.folder.now c.answer.new.folder end here saved

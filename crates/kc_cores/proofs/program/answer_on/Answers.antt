@@ -12,4 +12,4 @@ returns-in-Ok-clause-ended g c =
     (c.answer.result, c.exit_with-in-Ok.ensures, inl (map string_bytes c.as_slice.result.now, words, line, ended, told))
 
 pub returns-in-Err-clause-ended : goal.returns-in-Err-clause-ended
-returns-in-Err-clause-ended g c = (NoMemory, c.exit_with.ensures, inr (refl, refl))
+returns-in-Err-clause-ended g c = (NoMemory, c.exit_with.ensures, inr (refl, refl, refl))

@@ -7,7 +7,7 @@ use Rattle.clap.specs.Walk.{Row, Text, first_of, rows_of}
 use Rattle.clap.proofs.WalkLemmas.{first_value-rows}
 use Rattle.kc_cores.specs.Endings.{IsRequestFor, RepliesTo}
 use Rattle.kc_lines.specs.declared.format.Format.{Format}
-use Rattle.kc_cores.specs.Wishes.{GraphText, Wish, check_wish, format_in, is_set, task_in, text_in, wish_about, wish_for}
+use Rattle.kc_cores.specs.Wishes.{GraphText, Wish, check_wish, file_named, format_in, is_set, task_in, text_in, wish_about, wish_for}
 use Rattle.kc_cores.specs.declared.request.Task.{Task}
 use Rattle.kc_cores.proofs.words.wanted_of.Goals as goal
 
@@ -16,19 +16,23 @@ wish-check : (name : Text) (rows : List Row) → bytes_eq name (codes "check") �
     → wish_about name rows ≡ check_wish (first_of (codes "CERTIFICATE") rows) (text_in rows)
 wish-check name rows is =
     ap (λ (b : Bool). cond b (check_wish (first_of (codes "CERTIFICATE") rows) (text_in rows))
-    (wish_for (task_in name rows) (text_in rows) (format_in (first_of (codes "format") rows)) (is_set (first_of (codes "quiet") rows)))) is
+    (wish_for (task_in name rows) (text_in rows) (format_in (first_of (codes "format") rows)) (file_named (first_of (codes "output") rows))
+    (is_set (first_of (codes "quiet") rows)))) is
 
 -- what another command asks for
 wish-other : (name : Text) (rows : List Row) → bytes_eq name (codes "check") ≡ false
-    → wish_about name rows ≡ wish_for (task_in name rows) (text_in rows) (format_in (first_of (codes "format") rows)) (is_set (first_of (codes "quiet") rows))
+    → wish_about name rows ≡ wish_for (task_in name rows) (text_in rows) (format_in (first_of (codes "format") rows)) (file_named (first_of (codes "output") rows))
+    (is_set (first_of (codes "quiet") rows))
 wish-other name rows is =
     ap (λ (b : Bool). cond b (check_wish (first_of (codes "CERTIFICATE") rows) (text_in rows))
-    (wish_for (task_in name rows) (text_in rows) (format_in (first_of (codes "format") rows)) (is_set (first_of (codes "quiet") rows)))) is
+    (wish_for (task_in name rows) (text_in rows) (format_in (first_of (codes "format") rows)) (file_named (first_of (codes "output") rows))
+    (is_set (first_of (codes "quiet") rows)))) is
 
 -- the same of parts that are the same
-asks-same : {task task' : Option Task} {graph graph' : Option GraphText} {format format' : Option Format} {quiet quiet' : Bool} → task ≡ task'
-    → graph ≡ graph' → format ≡ format' → quiet ≡ quiet' → wish_for task graph format quiet ≡ wish_for task' graph' format' quiet'
-asks-same one two three four = λ i. wish_for (one i) (two i) (three i) (four i)
+asks-same : {task task' : Option Task} {graph graph' : Option GraphText} {format format' : Option Format} {output output' : Option Text}
+    {quiet quiet' : Bool} → task ≡ task' → graph ≡ graph' → format ≡ format' → output ≡ output' → quiet ≡ quiet'
+    → wish_for task graph format output quiet ≡ wish_for task' graph' format' output' quiet'
+asks-same one two three four five = λ i. wish_for (one i) (two i) (three i) (four i) (five i)
 
 pub returns-then-eq-clause-asks : goal.returns-then-eq-clause-asks
 returns-then-eq-clause-asks c =
@@ -51,6 +55,7 @@ returns-clause-asks c =
     let rows =
     asks-same c.task_in-task.ensures c.text_in-graph.ensures
     (c.format_in-format.ensures ∙ ap format_in (c.get_str-3.ensures ∙ first_value-rows found (codes "format")))
+    (c.file_named-output.ensures ∙ ap file_named (c.get_str-4.ensures ∙ first_value-rows found (codes "output")))
     (c.is_set-quiet.ensures ∙ ap is_set (c.get_str-2.ensures ∙ first_value-rows found (codes "quiet"))) in
     IfOk-weaker c.request_for.result _ _ (λ wanted h. subst (λ (w : Wish). IsRequestFor wanted w) (rows ∙ sym named) h) c.request_for.ensures.asks
 
@@ -61,5 +66,6 @@ returns-clause-replies c =
     let rows =
     asks-same c.task_in-task.ensures c.text_in-graph.ensures
     (c.format_in-format.ensures ∙ ap format_in (c.get_str-3.ensures ∙ first_value-rows found (codes "format")))
+    (c.file_named-output.ensures ∙ ap file_named (c.get_str-4.ensures ∙ first_value-rows found (codes "output")))
     (c.is_set-quiet.ensures ∙ ap is_set (c.get_str-2.ensures ∙ first_value-rows found (codes "quiet"))) in
     IfErr-weaker c.request_for.result _ _ (λ r h. subst (λ (w : Wish). RepliesTo r w) (rows ∙ sym named) h) c.request_for.ensures.replies

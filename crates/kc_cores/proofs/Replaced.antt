@@ -1,0 +1,123 @@
+-- A run whose lines become a file ends as it should, and so does any run.
+use Rattle.std.proofs.Common.{◌≡◌, ◌<◌, ◌⊎◌, ◌∙◌, ◌++◌, ℕ, Bool, List, [], Option, None, Some, ap, arith, refl, subst, sym}
+use Rattle.std.specs.Io.KnownBytes.{Appends, IsAtEnd}
+use Rattle.kc_io.specs.Causes.{Rose}
+use Rattle.kc_io.specs.declared.sink.Sink as sinks
+use Rattle.kc_io.specs.declared.source.Source as sources
+use Rattle.kc_wire.specs.declared.wire.Wire as wires
+use Rattle.kc_files.specs.Folders.{Held, IsBegun, TellsNothing, held_as}
+use Rattle.kc_cores.specs.CheckEnded.{EndsAsAsked}
+use Rattle.kc_cores.specs.CoresEnded.{IsAnswerTo, done_line}
+use Rattle.kc_cores.specs.Endings.{NoFileGraphAt, RepliesTo}
+use Rattle.kc_cores.specs.Inputs.{known_bytes}
+use Rattle.kc_cores.specs.Saved.{AllStay, HasBytes, IsUnsavedLine, OthersStay, RunEnded, SaveEnded, SavedAt}
+use Rattle.kc_cores.specs.Sentences.{no_memory_line}
+use Rattle.kc_cores.specs.Wishes.{Asks, Query, Saves, Wish}
+use Rattle.kc_cores.specs.declared.CoresStatus.{CoresStatus}
+use Rattle.kc_cores.specs.declared.CoresStatus.TheVariants as status
+use Rattle.kc_cores.specs.declared.words.Reply.{Reply}
+use Rattle.kc_cores.specs.declared.words.Reply.TheVariants as reply
+
+-- a count that has risen is more than none
+pub rose-above : (before after : ℕ) → Rose before after → 0 < after
+rose-above before after rose = grind (arith, rose)
+
+-- words that ask for something else ask for no file
+pub not_saved : (wish other : Wish) → wish ≡ other → ((name : List ℕ) (query : Query) → other ≡ Saves name query → ⊥) → (name : List ℕ) (query : Query)
+    → wish ≡ Saves name query → ⊥
+not_saved wish other is none name query e = none name query (sym is ∙ e)
+
+-- a file that has the bytes of a part has the text that the part took since it was begun
+pub HasBytes-part : (holds : List ℕ → Held) (held : Held) (before after : Option (List ℕ)) (text : List ℕ) → held ≡ held_as after → IsBegun before holds
+    → (TellsNothing holds → held ≡ None) → Appends before after text → HasBytes held text
+HasBytes-part holds held None after text is begun untold took = subst (λ (h : Held). HasBytes h text) (sym (untold begun)) tt
+HasBytes-part holds held (Some none) None text is begun untold took = absurd took
+HasBytes-part holds held (Some none) (Some bytes) text is begun untold took =
+    subst (λ (h : Held). HasBytes h text) (sym is) (ap (λ (b : List ℕ). Some b) (took ∙ ap (λ (b : List ℕ). b ++ text) begun))
+
+module _ {I P : Type 0} (source : sources.Ghosts I) (behind : I → List ℕ → Option (List ℕ)) (holds : P → List ℕ → Held) (failed : P → ℕ) where
+  -- there is no graph
+  no_graph : (name : List ℕ) (query : Query) (end : CoresStatus) (known left : Option (List ℕ)) (line : List ℕ) (f f' : ℕ) (p p' : P) → p' ≡ p
+      → NoFileGraphAt end line query.graph known f f' → SavedAt holds failed end name query known left line f f' p p'
+  no_graph name query status.Refused known left line f f' p p' stays h = (h, stays)
+  no_graph name query status.Unopened known left line f f' p p' stays h = (h, stays)
+  no_graph name query status.ReadFault known left line f f' p p' stays h = (h, stays)
+  no_graph name query status.NoMemory known left line f f' p p' stays h = (h, stays)
+  no_graph name query _ known left line f f' p p' stays h = absurd h
+
+  -- there is no graph, so the folder is as it was
+  pub SaveEnded-no_graph : (name : List ℕ) (query : Query) (end : CoresStatus) (line : List ℕ) (i i' : I) (p : P)
+      → NoFileGraphAt end line query.graph (known_bytes source.left behind query.graph.file i) (source.faults i) (source.faults i')
+      → SaveEnded source behind holds failed name query end line i i' p p
+  SaveEnded-no_graph name query end line i i' p h =
+      no_graph name query end (known_bytes source.left behind query.graph.file i) (source.left i') line (source.faults i) (source.faults i') p p refl h
+
+  -- the file has the lines
+  pub SaveEnded-done : (name : List ℕ) (query : Query) (text summary : List ℕ) (i i' : I) (p p' : P)
+      → IsAnswerTo (Asks query) (known_bytes source.left behind query.graph.file i) text summary → IsAtEnd (source.left i')
+      → source.faults i' ≡ source.faults i → HasBytes (holds p' name) text → OthersStay holds name p p' → failed p' ≡ failed p
+      → SaveEnded source behind holds failed name query status.Done (done_line query.quiet summary) i i' p p'
+  SaveEnded-done name query text summary i i' p p' answer ended faultless has others kept =
+      ((text, summary, answer, refl, has), others, ended, faultless, kept)
+
+  -- the file was not written
+  pub SaveEnded-unsaved : (name : List ℕ) (query : Query) (text summary : List ℕ) (end : CoresStatus) (line : List ℕ) (i i' : I) (p p' : P)
+      → end ≡ status.WriteFault → IsUnsavedLine name line
+      → IsAnswerTo (Asks query) (known_bytes source.left behind query.graph.file i) text summary → source.faults i' ≡ source.faults i
+      → AllStay holds p p' → Rose (failed p) (failed p') → SaveEnded source behind holds failed name query end line i i' p p'
+  SaveEnded-unsaved name query text summary end line i i' p p' is told answer faultless stays rose =
+      subst (λ (e : CoresStatus). SaveEnded source behind holds failed name query e line i i' p p') (sym is)
+      ((text, summary, answer), told, stays, faultless, rose)
+
+  module _ {C O L : Type 0} (kept : sources.Ghosts C) (beside : C → List ℕ → Option (List ℕ)) (out : sinks.Ghosts O) (gone : O → Bool)
+      (wire : wires.Ghosts L) where
+    -- a run whose lines become no file
+    pub RunEnded-asked : (wish : Wish) (end : CoresStatus) (line : List ℕ) (i i' : I) (c c' : C) (o o' : O) (l l' : L) (p p' : P)
+        → ((name : List ℕ) (query : Query) → wish ≡ Saves name query → ⊥)
+        → EndsAsAsked source behind kept beside out gone wire wish end line i i' c c' o o' l l' → p' ≡ p
+        → RunEnded source behind kept beside out gone wire holds failed wish end line i i' c c' o o' l l' p p'
+    RunEnded-asked wish end line i i' c c' o o' l l' p p' other h stays = record {
+      save = λ name query e. absurd (other name query e);
+      asked = λ _. (h, stays);
+    }
+
+    -- a run whose lines become a file
+    pub RunEnded-save : (wish : Wish) (name : List ℕ) (query : Query) (end : CoresStatus) (line : List ℕ) (i i' : I) (c c' : C) (o o' : O) (l l' : L)
+        (p p' : P) → wish ≡ Saves name query → SaveEnded source behind holds failed name query end line i i' p p' → c' ≡ c → o' ≡ o → l' ≡ l
+        → RunEnded source behind kept beside out gone wire holds failed wish end line i i' c c' o o' l l' p p'
+    RunEnded-save wish name query end line i i' c c' o o' l l' p p' is h one two three = record {
+      save = λ n q e.
+          let same_name : name ≡ n = cc in
+          let same_query : query ≡ q = cc in (
+            subst (λ (x : List ℕ). SaveEnded source behind holds failed x q end line i i' p p') same_name
+                (subst (λ (x : Query). SaveEnded source behind holds failed name x end line i i' p p') same_query h),
+            one,
+            two,
+            three,
+          );
+      asked = λ none. absurd (none name query is);
+    }
+
+    -- a run that is a reply to its words
+    pub RunEnded-reply : (wish : Wish) (r : Reply) (end : CoresStatus) (line : List ℕ) (i i' : I) (c c' : C) (o o' : O) (l l' : L) (p p' : P)
+        → RepliesTo r wish → EndsAsAsked source behind kept beside out gone wire wish end line i i' c c' o o' l l' → c' ≡ c → l' ≡ l → p' ≡ p
+        → (r ≡ reply.NoMemory → (end ≡ status.NoMemory) × (line ≡ no_memory_line) × (i' ≡ i) × (o' ≡ o))
+        → RunEnded source behind kept beside out gone wire holds failed wish end line i i' c c' o o' l l' p p'
+    RunEnded-reply wish r end line i i' c c' o o' l l' p p' replies h one three stays memory = record {
+      save = λ name query e. go r name query (subst (RepliesTo r) e replies) memory;
+      asked = λ _. (h, stays);
+    }
+      where
+        go : (r : Reply) (name : List ℕ) (query : Query) → RepliesTo r (Saves name query)
+            → (r ≡ reply.NoMemory → (end ≡ status.NoMemory) × (line ≡ no_memory_line) × (i' ≡ i) × (o' ≡ o))
+            → SaveEnded source behind holds failed name query end line i i' p p' × (c' ≡ c) × (o' ≡ o) × (l' ≡ l)
+        go (reply.Asked text) name query replies memory = absurd replies
+        go (reply.Mistake text) name query replies memory = absurd replies
+        go reply.NoMemory name query replies memory =
+            let (ended, told, same, two) = memory refl in (
+              subst (λ (e : CoresStatus). SaveEnded source behind holds failed name query e line i i' p p') (sym ended)
+                  ((told, ap source.faults same), stays),
+              one,
+              two,
+              three,
+            )
