@@ -1,0 +1,152 @@
+#!/usr/bin/env python3
+"""Refuses requests for memory of the tests, one after another, and looks how each test ends.
+
+    python3 bench/refused_tests.py [--most N] [NAME..]      of each test the first N requests (20), in the built program of its crate
+    python3 bench/refused_tests.py --try [--most N] [NAME..]   by `rt try --test --fail-alloc`, which builds with sanitizers and needs no proof
+    python3 bench/refused_tests.py --both [NAME..]          runs the tests as two compilers build them, with nothing refused
+
+NAME is a crate of tests; without one it is each of crates.txt, lowest first. `rt test` in a crate's folder builds crates/NAME/out/NAME_tests. The
+first way runs that program under an allocator that is preloaded (refuse.c), each test in a process of its own. It needs the program and a C
+compiler, but no rt. The others call rt, and take long: `--try` builds the crate anew for each number, and `--both` has it proved.
+
+A test whose request is refused may pass, where it can do without. Else it has to fail: with an error or an assertion that names want of memory.
+It must not end by another signal than that of an assertion, and it must not run on without an end. What fails otherwise is printed with how often it
+came: each such text is to be looked at, since it may be a wrong answer. EXPECTED has those that were looked at. The status is 1 where one is not there.
+"""
+import argparse
+import collections
+import os
+import pathlib
+import re
+import resource
+import signal
+import struct
+import subprocess
+import sys
+import tempfile
+
+import refused
+
+TOP = pathlib.Path(__file__).resolve().parent.parent
+CRATES = TOP / "crates"
+LIMIT = 60  # seconds that a test may take
+MEMORY = re.compile(rb"out of memory|no memory|NoMemory|OutOfMemory|AllocError|NoSpace|memory allocation failed", re.I)
+EXPECTED = {}
+
+
+def crates_of_tests():
+    lines = (TOP / "crates.txt").read_text(encoding="utf-8").splitlines()
+    names = [re.split(r"[\s:]", line)[0] for line in lines if line.strip() and not line.startswith("#")]
+    return [it for it in names if it.endswith("_tests")]
+
+
+class Tests:
+    """The built tests of a crate."""
+
+    def __init__(self, crate, library, place):
+        self.program = CRATES / crate / "out" / f"{crate}_tests"
+        self.crate, self.library, self.report = crate, library, os.path.join(place, "report")
+
+    def names(self):
+        said = subprocess.run([self.program, "--list"], capture_output=True, check=True, text=True).stdout
+        return re.findall(r"^(.*): test$", said, re.M)
+
+    def run(self, test, number):
+        """How the test ends where this request is refused, what it wrote on standard error, and whether the request came."""
+        with open(self.report, "wb") as file:
+            file.write(bytes(16))
+        inside = dict(os.environ, LD_PRELOAD=self.library, KCORE_REFUSE=str(number), KCORE_REFUSE_REPORT=self.report)
+        no_core = lambda: resource.setrlimit(resource.RLIMIT_CORE, (0, 0))
+        try:
+            done = subprocess.run([self.program, test], stdin=subprocess.DEVNULL, capture_output=True, env=inside, timeout=LIMIT, preexec_fn=no_core)
+            status, text = done.returncode, done.stderr
+        except subprocess.TimeoutExpired:
+            status, text = None, b"it does not end"
+        with open(self.report, "rb") as file:
+            return status, text, struct.unpack("=QQ", file.read(16))[1] > 0
+
+
+def end_of(status, text):
+    """One of 'passed', 'memory' and what else it says."""
+    if status == 0:
+        return "passed"
+    if status is not None and (status > 0 or status == -signal.SIGABRT) and MEMORY.search(text):
+        return "memory"
+    words = b" ".join(text.split()).decode(errors="replace")[:300]
+    return f"{'no end' if status is None else f'status {status}'}: {words}"
+
+
+def refuse_in(tests, most):
+    """Refuses the first requests of each test, and counts how they end."""
+    ends = collections.Counter()
+    for test in tests.names():
+        status, text, _ = tests.run(test, 0)
+        if status != 0:
+            ends[f"{test}: fails with nothing refused: {end_of(status, text)}"] += 1
+            continue
+        for number in range(1, most + 1):
+            status, text, came = tests.run(test, number)
+            if not came:
+                break
+            end = end_of(status, text)
+            ends[end if end in ("passed", "memory") else f"{test}: {end}"] += 1
+    return ends
+
+
+def tell(crate, ends):
+    """Prints a line of the crate and one of each other end. Returns how many of these were not looked at."""
+    other = {it: count for it, count in ends.items() if it not in ("passed", "memory")}
+    print(f"{crate}: {sum(ends.values())} refused: {ends['memory']} failed for want of memory, {ends['passed']} passed, {sum(other.values())} otherwise", flush=True)
+    for text, count in other.items():
+        print(f"  {count} x {text}{'' if is_expected(crate, text) else '  <- to be looked at'}", flush=True)
+    return sum(not is_expected(crate, it) for it in other)
+
+
+def is_expected(crate, text):
+    return any(word in text for word in EXPECTED.get(crate, ()))
+
+
+def try_in(crate, most):
+    """The same by `rt try`, of all tests at once: how each number ends."""
+    ends = collections.Counter()
+    for number in range(1, most + 1):
+        words = ["rt", "try", "--test", "--fail-alloc", str(number)]
+        done = subprocess.run(words, cwd=CRATES / crate, stdin=subprocess.DEVNULL, stdout=subprocess.PIPE, stderr=subprocess.STDOUT)
+        print(f"{crate} --fail-alloc {number}: status {done.returncode}", flush=True)
+        sys.stdout.buffer.write(done.stdout)
+        sys.stdout.flush()
+        ends[done.returncode] += 1
+    return ends
+
+
+def main():
+    words = argparse.ArgumentParser(description=__doc__, formatter_class=argparse.RawDescriptionHelpFormatter)
+    words.add_argument("names", nargs="*")
+    words.add_argument("--most", type=int, default=20)
+    words.add_argument("--try", dest="by_try", action="store_true")
+    words.add_argument("--both", action="store_true")
+    asked = words.parse_args()
+    names, status = asked.names or crates_of_tests(), 0
+    if asked.both:
+        for crate in names:
+            inside = dict(os.environ, RT_BACKEND="both")
+            ended = subprocess.run(["rt", "test"], cwd=CRATES / crate, env=inside, stdin=subprocess.DEVNULL).returncode
+            print(f"{crate}: by both compilers: status {ended}", flush=True)
+            status |= ended != 0
+    elif asked.by_try:
+        for crate in names:
+            print(f"{crate}: {dict(try_in(crate, asked.most))}", flush=True)
+    else:
+        with tempfile.TemporaryDirectory() as place:
+            library = refused.built(place)
+            for crate in names:
+                tests = Tests(crate, library, place)
+                if not tests.program.is_file():
+                    print(f"{crate}: left out, since {tests.program.name} is not built: rt test in its folder builds it", flush=True)
+                    continue
+                status |= tell(crate, refuse_in(tests, asked.most)) > 0
+    sys.exit(int(status))
+
+
+if __name__ == "__main__":
+    main()
