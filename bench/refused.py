@@ -1,9 +1,9 @@
 #!/usr/bin/env python3
 """Refuses each request for memory of the built program in turn, and looks how its runs end.
 
-usage: refused.py [--kcore PROGRAM] [--stress PROGRAM] [--only WORD] [--quick]
-(default: crates/kcore/out/kcore and crates/stress_journal/out/stress_journal beside this folder; ./kcore builds the one, and `rt run` in
-its folder the other, which is left out where it is not there)
+usage: refused.py [--kcore PROGRAM] [--cores PROGRAM] [--stress PROGRAM] [--only WORD] [--quick]
+(default: crates/kcore/out/kcore, crates/cores/out/cores and crates/stress_journal/out/stress_journal beside this folder; ./kcore and ./cores
+build the first two, and `rt run` in its folder the third; what is not there is left out)
 
 The program runs under an allocator that is preloaded (refuse.c, which is built here by $CC or cc): in one run after another the first request is
 refused, the second, and so on, until a run needs no more; and then the same where each request after the refused one is refused too (--quick leaves
@@ -11,6 +11,8 @@ that out). Only requests that the program itself makes are counted. Each run has
 
   as the run of which nothing is refused, with its status, its whole text and its line on standard error, or
   with status 6, a prefix of that text, and `no memory` on standard error (nothing there where there is no memory for the words).
+
+`cores` says in its own words that there is not enough memory. Then it has written nothing, and `cores watch` a prefix of its answers.
 
 The last case is a program of its own over the journal: where a request is refused, it looks whether the journal is as it was before the
 update, or has just those of a batch that were entered, and says so where it is not. It has no status of its own for want of memory: it
@@ -58,6 +60,23 @@ CASES = (
     ("a refused line", [], b"1 2\nbatch\n+ 1 3\n+ 1\n"),
     ("a word that is wrong", ["--workers", "65"], TRIANGLE),
 )
+TABLE = b"a,b\n1,2\n2,3\n3,1\n"
+BROKEN = b"1 2\n2 x\n"
+CORES_CASES = (
+    ("cores: numbers", ["numbers"], TRIANGLE),
+    ("cores: numbers as JSON lines", ["numbers", "--format", "json"], TRIANGLE),
+    ("cores: sizes", ["sizes"], TRIANGLE),
+    ("cores: the edges of a core", ["members", "--core", "2", "--edges"], TRIANGLE),
+    ("cores: layers", ["layers"], TRIANGLE),
+    ("cores: an order", ["order"], TRIANGLE),
+    ("cores: a certificate", ["check", "{certificate}"], TRIANGLE),
+    ("cores: a table", ["numbers", "--columns", "1,2", "--separator", "comma", "--skip", "1"], TABLE),
+    ("cores: a refused line", ["numbers"], BROKEN),
+    ("cores: a stream", ["watch"], TWO_EDGES),
+    ("cores: a stream and its changes", ["watch", "--show", "changes", "--enter", "1"], TWO_EDGES),
+)
+CERTIFICATE = b"1 2\n2 2\n3 2\n"
+CORES_LINE = b"cores: there is not enough memory for this graph\n"
 JOURNAL_CASE = ("a journal in one thread, and by two workers", ["few"], b"")
 JOURNAL_LINES = (b"Error: out of memory\n", b"Error: memory allocation failed\n")  # where it has no memory
 
@@ -98,6 +117,16 @@ def has_no_memory(ended):
     """Whether a run ends as the program does where there is no memory."""
     status, out, err = ended
     return status == NO_MEMORY and (err == b"no memory\n" or (err == b"" and out == b""))
+
+
+def has_no_memory_for_cores(ended):
+    """The same of the program cores; of a stream a part may be written."""
+    status, out, err = ended
+    return status == NO_MEMORY and (err == CORES_LINE or (err == b"" and out == b""))
+
+
+def has_no_memory_and_wrote_nothing(ended):
+    return has_no_memory_for_cores(ended) and ended[1] == b""
 
 
 def has_no_memory_for_journal(ended):
@@ -161,24 +190,30 @@ def try_case(runner, name, quick):
 def main():
     words = argparse.ArgumentParser(description=__doc__, formatter_class=argparse.RawDescriptionHelpFormatter)
     words.add_argument("--kcore", default=str(HERE.parent / "crates/kcore/out/kcore"))
+    words.add_argument("--cores", default=str(HERE.parent / "crates/cores/out/cores"))
     words.add_argument("--stress", default=str(HERE.parent / "crates/stress_journal/out/stress_journal"))
     words.add_argument("--only", default="", help="the cases whose name has this word")
     words.add_argument("--quick", action="store_true", help="refuse single requests alone")
     chosen = words.parse_args()
     cases = [(chosen.kcore, has_no_memory, case) for case in CASES]
-    if os.path.exists(chosen.stress):
-        cases.append((chosen.stress, has_no_memory_for_journal, JOURNAL_CASE))
-    else:
-        print("left out, not built:", chosen.stress, file=sys.stderr)
+    for case in CORES_CASES:
+        cases.append((chosen.cores, has_no_memory_for_cores if case[1][0] == "watch" else has_no_memory_and_wrote_nothing, case))
+    cases.append((chosen.stress, has_no_memory_for_journal, JOURNAL_CASE))
+    for program in dict.fromkeys(it[0] for it in cases):
+        if not os.path.exists(program):
+            print("left out, not built:", program, file=sys.stderr)
     total, kept = 0, True
     with tempfile.TemporaryDirectory() as place:
         library = built(place)
+        certificate = pathlib.Path(place, "certificate")
+        certificate.write_bytes(CERTIFICATE)
         for program, without, (name, arguments, data) in cases:
-            if chosen.only in name:
+            arguments = [it.format(certificate=certificate) for it in arguments]
+            if chosen.only in name and os.path.exists(program):
                 refused, all_kept = try_case(Runner(program, without, library, place, arguments, data), name, chosen.quick)
                 total, kept = total + refused, kept and all_kept
     print(f"{total} requests refused: {'nothing was lost' if kept else 'SOMETHING WAS LOST'}")
-    sys.exit(0 if kept else 1)
+    sys.exit(0 if kept and total else 1)
 
 
 if __name__ == "__main__":

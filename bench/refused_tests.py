@@ -40,12 +40,16 @@ def crates_of_tests():
     return [it for it in names if it.endswith("_tests")]
 
 
+def program_of(crate):
+    """The program that rt makes of a crate's tests."""
+    return CRATES / crate / "out" / f"{crate}_tests"
+
+
 class Tests:
     """The built tests of a crate."""
 
     def __init__(self, crate, library, place):
-        self.program = CRATES / crate / "out" / f"{crate}_tests"
-        self.crate, self.library, self.report = crate, library, os.path.join(place, "report")
+        self.program, self.library, self.report = program_of(crate), library, os.path.join(place, "report")
 
     def names(self):
         said = subprocess.run([self.program, "--list"], capture_output=True, check=True, text=True).stdout
@@ -138,13 +142,12 @@ def main():
             print(f"{crate}: {dict(try_in(crate, asked.most))}", flush=True)
     else:
         with tempfile.TemporaryDirectory() as place:
-            library = refused.built(place)
-            for crate in names:
-                tests = Tests(crate, library, place)
-                if not tests.program.is_file():
-                    print(f"{crate}: left out, since {tests.program.name} is not built: rt test in its folder builds it", flush=True)
-                    continue
-                status |= tell(crate, refuse_in(tests, asked.most)) > 0
+            library, built = refused.built(place), [it for it in names if program_of(it).is_file()]
+            for crate in built:
+                status |= tell(crate, refuse_in(Tests(crate, library, place), asked.most)) > 0
+        for crate in [it for it in names if it not in built]:
+            print(f"{crate}: left out, since it is not built: rt test in its folder builds it", flush=True)
+        status |= not built
     sys.exit(int(status))
 
 
