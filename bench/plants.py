@@ -151,7 +151,7 @@ def block():
     found, known, lacking = outcomes(), reasons(), []
     tried = [it.crate for it in found]
     left = [it for it in libraries() if it not in tried]
-    lines = ["", *table(found), ""]
+    lines = ["", *table(found), ""] if found else [""]
     lines += ["Not tried: " + (", ".join(f"`{it}`" for it in left) or "none") + ".", ""]
     rows = [(it.crate, body) for it in found for body in [*it.proved, *(f"{bare}: {{ any }}" for bare in it.bare)]]
     if rows:

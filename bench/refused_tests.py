@@ -1,9 +1,9 @@
 #!/usr/bin/env python3
 """Refuses requests for memory of the tests, one after another, and looks how each test ends.
 
-    python3 bench/refused_tests.py [--most N] [NAME..]      of each test the first N requests (20), in the built program of its crate
-    python3 bench/refused_tests.py --try [--most N] [NAME..]   by `rt try --test --fail-alloc`, which builds with sanitizers and needs no proof
-    python3 bench/refused_tests.py --both [NAME..]          runs the tests as two compilers build them, with nothing refused
+    python3 bench/refused_tests.py [--most N] [--seconds N] [NAME..]   of each test the first N requests (20), in the built program of its crate
+    python3 bench/refused_tests.py --try [--most N] [NAME..]           by `rt try --test --fail-alloc`, which builds with sanitizers and needs no proof
+    python3 bench/refused_tests.py --both [NAME..]                     runs the tests as two compilers build them, with nothing refused
 
 NAME is a crate of tests; without one it is each of crates.txt, lowest first. `rt test` in a crate's folder builds crates/NAME/out/NAME_tests. The
 first way runs that program under an allocator that is preloaded (refuse.c), each test in a process of its own. It needs the program and a C
@@ -29,9 +29,16 @@ import refused
 
 TOP = pathlib.Path(__file__).resolve().parent.parent
 CRATES = TOP / "crates"
-LIMIT = 60  # seconds that a test may take
 MEMORY = re.compile(rb"out of memory|no memory|NoMemory|OutOfMemory|AllocError|NoSpace|memory allocation failed", re.I)
-EXPECTED = {}
+NO_END = "no end: it does not end"
+NO_THREAD = "a thread can't be started, so its work comes last, and the test waits for it before"
+EXPECTED = {
+    ("kc_base_tests", "status -6: assertion failed: false"): "a text was wanted, and its reading has failed",
+    ("kc_claims_tests", '"no claims"'): "the claims can't be kept",
+    ("kc_order_tests", "assertion failed: waiting.lock(rt).push_back(next).is_ok()"): "the queue can't grow",
+    ("kc_order_tests", f"handing::an_item_of_which_a_thread_was_told_is_never_absent_and_never_turned: {NO_END}"): NO_THREAD,
+    ("kc_order_tests", f"racing::sure_answers_beneath_puts_and_takes_are_right: {NO_END}"): NO_THREAD,
+}
 
 
 def crates_of_tests():
@@ -48,8 +55,9 @@ def program_of(crate):
 class Tests:
     """The built tests of a crate."""
 
-    def __init__(self, crate, library, place):
+    def __init__(self, crate, library, place, seconds):
         self.program, self.library, self.report = program_of(crate), library, os.path.join(place, "report")
+        self.seconds = seconds
 
     def names(self):
         said = subprocess.run([self.program, "--list"], capture_output=True, check=True, text=True).stdout
@@ -62,7 +70,7 @@ class Tests:
         inside = dict(os.environ, LD_PRELOAD=self.library, KCORE_REFUSE=str(number), KCORE_REFUSE_REPORT=self.report)
         no_core = lambda: resource.setrlimit(resource.RLIMIT_CORE, (0, 0))
         try:
-            done = subprocess.run([self.program, test], stdin=subprocess.DEVNULL, capture_output=True, env=inside, timeout=LIMIT, preexec_fn=no_core)
+            done = subprocess.run([self.program, test], stdin=subprocess.DEVNULL, capture_output=True, env=inside, timeout=self.seconds, preexec_fn=no_core)
             status, text = done.returncode, done.stderr
         except subprocess.TimeoutExpired:
             status, text = None, b"it does not end"
@@ -81,33 +89,39 @@ def end_of(status, text):
 
 
 def refuse_in(tests, most):
-    """Refuses the first requests of each test, and counts how they end."""
-    ends = collections.Counter()
+    """Refuses the first requests of each test: how many failed for want of memory, and for each other end the requests with which it came."""
+    memory, ends = 0, collections.defaultdict(list)
     for test in tests.names():
         status, text, _ = tests.run(test, 0)
         if status != 0:
-            ends[f"{test}: fails with nothing refused: {end_of(status, text)}"] += 1
+            ends[f"{test}: {end_of(status, text)}"].append(0)
             continue
         for number in range(1, most + 1):
             status, text, came = tests.run(test, number)
             if not came:
                 break
             end = end_of(status, text)
-            ends[end if end in ("passed", "memory") else f"{test}: {end}"] += 1
-    return ends
+            if end == "memory":
+                memory += 1
+            else:
+                ends[f"{test}: {end}"].append(number)
+    return memory, ends
 
 
-def tell(crate, ends):
-    """Prints a line of the crate and one of each other end. Returns how many of these were not looked at."""
-    other = {it: count for it, count in ends.items() if it not in ("passed", "memory")}
-    print(f"{crate}: {sum(ends.values())} refused: {ends['memory']} failed for want of memory, {ends['passed']} passed, {sum(other.values())} otherwise", flush=True)
-    for text, count in other.items():
-        print(f"  {count} x {text}{'' if is_expected(crate, text) else '  <- to be looked at'}", flush=True)
-    return sum(not is_expected(crate, it) for it in other)
+def tell(crate, memory, ends):
+    """Prints a line of the crate, and one of each other end with its requests, 0 for none. Returns how many of these were not looked at."""
+    passed = sum(len(numbers) for it, numbers in ends.items() if it.endswith(": passed"))
+    total, lacking = memory + sum(map(len, ends.values())), 0
+    print(f"{crate}: {total} refused: {memory} failed for want of memory, {passed} passed, {total - memory - passed} otherwise", flush=True)
+    for text, numbers in ends.items():
+        why = "" if text.endswith(": passed") else reason_of(crate, text) or "to be looked at"
+        lacking += why == "to be looked at"
+        print(f"  {' '.join(map(str, numbers))}: {text}{f'  <- {why}' if why else ''}", flush=True)
+    return lacking
 
 
-def is_expected(crate, text):
-    return any(word in text for word in EXPECTED.get(crate, ()))
+def reason_of(crate, text):
+    return next((why for (its, part), why in EXPECTED.items() if its == crate and part in text), "")
 
 
 def try_in(crate, most):
@@ -127,6 +141,7 @@ def main():
     words = argparse.ArgumentParser(description=__doc__, formatter_class=argparse.RawDescriptionHelpFormatter)
     words.add_argument("names", nargs="*")
     words.add_argument("--most", type=int, default=20)
+    words.add_argument("--seconds", type=int, default=60, help="how long a test may take, 60 where it is not given")
     words.add_argument("--try", dest="by_try", action="store_true")
     words.add_argument("--both", action="store_true")
     asked = words.parse_args()
@@ -144,7 +159,7 @@ def main():
         with tempfile.TemporaryDirectory() as place:
             library, built = refused.built(place), [it for it in names if program_of(it).is_file()]
             for crate in built:
-                status |= tell(crate, refuse_in(Tests(crate, library, place), asked.most)) > 0
+                status |= tell(crate, *refuse_in(Tests(crate, library, place, asked.seconds), asked.most)) > 0
         for crate in [it for it in names if it not in built]:
             print(f"{crate}: left out, since it is not built: rt test in its folder builds it", flush=True)
         status |= not built
