@@ -29,7 +29,7 @@ import refused
 
 TOP = pathlib.Path(__file__).resolve().parent.parent
 CRATES = TOP / "crates"
-MEMORY = re.compile(rb"out of memory|no memory|NoMemory|OutOfMemory|AllocError|NoSpace|memory allocation failed", re.I)
+MEMORY = re.compile(rb"out of memory|no memory|NoMemory|OutOfMemory|AllocError|AllocFailed|NoSpace|memory allocation failed", re.I)
 NO_END = "no end: it does not end"
 NO_THREAD = "a thread can't be started, so its work comes last, and the test waits for it before"
 EXPECTED = {
