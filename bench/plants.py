@@ -16,7 +16,7 @@ bench/plants.txt says why a body that was proved is right. It is kept by hand. A
 body of that function; the indented lines behind it say why. They begin with `right` where the body does what is promised, and with `open` where
 the contract should say more.
 
-The page has a table between the lines '<!-- plants -->' and '<!-- end -->': a row for each crate that was tried, the crates that were not, and
+The page has a table between the lines '<!-- plants -->' and '<!-- end -->': a row for each crate that was tried, how many were not, and
 each body that was proved with its reason. The status is 1 where a body has no reason yet, where a crate's run came to no end, or where --check
 finds another page.
 """
@@ -152,7 +152,7 @@ def block():
     tried = [it.crate for it in found]
     left = [it for it in libraries() if it not in tried]
     lines = ["", *table(found), ""] if found else [""]
-    lines += ["Not tried: " + (", ".join(f"`{it}`" for it in left) or "none") + ".", ""]
+    lines += [f"Of {len(libraries())} libraries {len(left) or 'none'} were not tried so far.", ""]
     rows = [(it.crate, body) for it in found for body in [*it.proved, *(f"{bare}: {{ any }}" for bare in it.bare)]]
     if rows:
         lines += ["| Crate | Function and the body that was proved | Why |", "|---|---|---|"]
