@@ -340,6 +340,7 @@ class InChromium(unittest.TestCase):
         self.resize(width)
         self.browser.execute_script("return new Promise((done) => requestAnimationFrame(() => requestAnimationFrame(done)))")
         shot = self.browser.execute_cdp_cmd("Page.captureScreenshot", {"captureBeyondViewport": True, "format": "png"})
+        Path(SHOTS).mkdir(parents=True, exist_ok=True)
         Path(SHOTS, f"{name}-{scheme}-{width}.png").write_bytes(base64.b64decode(shot["data"]))
         self.browser.execute_cdp_cmd("Emulation.clearDeviceMetricsOverride", {})
         self.browser.execute_cdp_cmd("Emulation.setEmulatedMedia", {"features": []})
