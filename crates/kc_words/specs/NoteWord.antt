@@ -1,5 +1,5 @@
 -- What a note packs, by powers of two.
-use Rattle.std.specs.Prelude.{ℕ, ◌+◌, ◌*◌, ◌/◌, ◌%◌, ◌<◌, ◌^◌, if◌then◌else◌, ◌==◌}
+use Rattle.std.specs.Prelude.{ℕ, ◌+◌, ◌-◌, ◌*◌, ◌/◌, ◌%◌, ◌<◌, ◌^◌, if◌then◌else◌, ◌==◌}
 use Rattle.kc_words.specs.declared.layout.TheConstants.{INDEX_BITS, VERTEX_BITS, ITEM_BITS, KIND_SHIFT, ADD_SHIFT, INDEX_SHIFT}
 use Rattle.kc_words.specs.declared.note.NoteWord.{NoteWord}
 use Rattle.kc_words.specs.declared.note.NoteWord.TheVariants.{Nothing, Enter, Put, Take}
@@ -36,5 +36,5 @@ unfoldable pub spare_of : ℕ → ℕ
 spare_of n =
     if kind_of n == 0 then n % 2 ^ KIND_SHIFT
     else if kind_of n == 1 then n / 2 ^ (2 * VERTEX_BITS) % 2
-    else if kind_of n == 2 then n / 2 ^ (2 * ITEM_BITS) % 2 ^ 20
-    else n / 2 ^ ITEM_BITS % 2 ^ 41
+    else if kind_of n == 2 then n / 2 ^ (2 * ITEM_BITS) % 2 ^ (KIND_SHIFT - 2 * ITEM_BITS)
+    else n / 2 ^ ITEM_BITS % 2 ^ (KIND_SHIFT - ITEM_BITS)

@@ -1,4 +1,4 @@
--- The lower number fits its 32 bits, so the or of the two is their sum, of which they are quotient and rest.
+-- The lower number fits its bits, so the or of the two is their sum, of which they are quotient and rest.
 use Rattle.kc_words.proofs.Packing.{joined_facts}
 use Rattle.kc_words.proofs.vertex.joined.Goals as goal
 

@@ -1,4 +1,4 @@
--- The shift and the mask are quotient and rest by 2^40: version and top label, which fit and make up the word again.
+-- The shift and the mask are quotient and rest by two to the width of a top label: version and top label, which fit and make up the word again.
 use Rattle.std.proofs.Common.{◌∙◌, ap, sym, subst}
 use Rattle.kc_words.specs.GroupWord.{group_word, IsFitting}
 use Rattle.kc_words.proofs.Packing.{group_masked, group_of-fits, group_word-group_of}

@@ -1,4 +1,4 @@
--- Shifts and masks cut the word at bits 40 and 19 into version, group and bottom label, which fit and make it up again.
+-- Shifts and masks cut the word into version, group and bottom label, which fit and make it up again.
 use Rattle.std.proofs.Common.{◌∙◌, ap, sym, subst}
 use Rattle.kc_words.specs.ItemWord.{item_word, IsFitting}
 use Rattle.kc_words.proofs.Packing.{item_masked, item_of-fits, item_word-item_of}

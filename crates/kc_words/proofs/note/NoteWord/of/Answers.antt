@@ -1,5 +1,6 @@
 -- By the two highest bits: the masks give the fields of that kind, which make up the word just where its spare bits are 0.
 use Rattle.std.proofs.Common.{◌≡◌, sym, arith, ◌/◌, ◌^◌}
+use Rattle.kc_words.specs.declared.layout.TheConstants.{KIND_SHIFT}
 use Rattle.kc_words.proofs.Notes.{note_of-nothing, enter_masked, put_masked, take_masked, nothing_back, enter_back, put_back, take_back}
 use Rattle.kc_words.proofs.note.NoteWord.of.Goals as goal
 
@@ -26,5 +27,5 @@ returns-in_default-clause-fields c = take_masked c.args.word (omega arith)
 
 pub returns-in_default-clause-packed_back : goal.returns-in_default-clause-packed_back
 returns-in_default-clause-packed_back c =
-    let e : c.args.word / 2 ^ 62 ≡ 3 = omega arith in
+    let e : c.args.word / 2 ^ KIND_SHIFT ≡ 3 = omega arith in
     rw (take_masked c.args.word e) (take_back c.args.word e)

@@ -1,4 +1,4 @@
--- The shift and the mask are quotient and rest by 2^32, which make up the word again.
+-- The shift and the mask are quotient and rest by two to the width of a core number, which make up the word again.
 use Rattle.std.proofs.Common.{◌∙◌, ap}
 use Rattle.kc_words.specs.VertexWord.{vertex_word}
 use Rattle.kc_words.proofs.Packing.{vertex_masked, vertex_word-vertex_of}

@@ -1,4 +1,4 @@
--- The stamp and the core number are joined, and are its quotient and rest by 2^32.
+-- The stamp and the core number are joined, and are its quotient and rest by two to the width of a core number.
 use Rattle.kc_words.specs.VertexWord.{vertex_word, vertex_of}
 use Rattle.kc_words.proofs.vertex.VertexWord.pack.Goals as goal
 
