@@ -14,7 +14,7 @@ use Rattle.kc_words.specs.Order.{Labels, labels, Ordered, PairBelow}
 use Rattle.kc_list.specs.Places.{Before, Placed, WordsKeepList, ItemStored, end_at, gap_end}
 use Rattle.kc_list.proofs.Order.{AtFirst, Beyond, Agrees, Before-pairs, order-parts, put_right_after, without-around}
 use Rattle.kc_list.proofs.WritesWord.{item_stored}
-use Rattle.kc_words.specs.declared.layout.TheConstants.{ITEMS, BOTTOM_ROOM}
+use Rattle.kc_words.specs.declared.layout.TheConstants.{VERSION_BITS, ITEMS, BOTTOM_ROOM}
 use Rattle.kc_words.proofs.Ordering.{InOrder-mono}
 
 -- words that have the list in order, as the crate says it, have it so as callers see it
@@ -134,7 +134,7 @@ in_by_group n ws list x s l =
 
 -- the word that the program stores for a put fits, and has the list in order with x right after p
 pub put_stored : (n : ℕ) (ws list : List ℕ) (x p label : ℕ) (w : ItemWord) → WordsKeepList n ws list → n ≤ ITEMS → member p list ≡ true → x < n → (x ≡ p → ⊥)
-    → (labels n ws).bottom p < label → label < gap_end n ws list p → w.version < 2 ^ 24 → w.group ≡ (labels n ws).group p → w.bottom ≡ label
+    → (labels n ws).bottom p < label → label < gap_end n ws list p → w.version < 2 ^ VERSION_BITS → w.group ≡ (labels n ws).group p → w.bottom ≡ label
     → FitsItem w × WordsKeepList n (set ws (1 + x) (item_word w)) (right_after x p (without x list)) × (item_of (get_or (set ws (1 + x) (item_word w))
     (1 + x) 0) ≡ w)
 put_stored n ws list x p label w s small p-in below ne low high v-fits w-g w-b =

@@ -24,7 +24,7 @@ use Rattle.kc_list.proofs.Spreading.{only-none, only-more, member-map}
 use Rattle.kc_list.specs.Sheets.{ChangesOnly, Paper, WritesKeepOrder, version, stored, OrderedAlong, RaisedAlong}
 use Rattle.kc_list.specs.declared.sheet.Write.{Write}
 use Rattle.kc_relabel.proofs.Once.{Distinct-at}
-use Rattle.kc_words.specs.declared.layout.TheConstants.{ITEMS, BOTTOM_ROOM, TOP_ROOM}
+use Rattle.kc_words.specs.declared.layout.TheConstants.{VERSION_BITS, ITEMS, BOTTOM_ROOM, TOP_ROOM}
 use Rattle.kc_list.specs.declared.limits.TheConstants.{GROUP_ITEMS}
 use Rattle.kc_lists.proofs.Shared.{map-agree}
 use Rattle.kc_lists.proofs.Counting.{member-get_or}
@@ -99,8 +99,8 @@ pub record MovedUp (n : ℕ) (ws list : List ℕ) (g h : ℕ) (low ups ls : List
 
 -- the last member of g that is still to move can move to the front of h
 pub moved_up : (n : ℕ) (ws list : List ℕ) (g h : ℕ) (x : ℕ) (low ups ls : List ℕ) (i : ℕ) (w : ItemWord) → WordsKeepList n ws list → n ≤ ITEMS
-    → Splitting n (labels n ws) list g h (x ∷ low) ups ls (i + 1) → i < length ups → length ls ≡ length ups → Ascends 1 BOTTOM_ROOM ls → w.version < 2 ^ 24
-    → w.group ≡ h → w.bottom ≡ get_or ls i 0 → MovedUp n ws list g h (x ∷ low) ups ls i w
+    → Splitting n (labels n ws) list g h (x ∷ low) ups ls (i + 1) → i < length ups → length ls ≡ length ups → Ascends 1 BOTTOM_ROOM ls
+    → w.version < 2 ^ VERSION_BITS → w.group ≡ h → w.bottom ≡ get_or ls i 0 → MovedUp n ws list g h (x ∷ low) ups ls i w
 moved_up n ws list g h x low ups ls i w s small sp i-in ls-len asc v-fits w-g w-b =
     let a = labels n ws in
     let b = labels n (set ws (1 + get_or ups i 0) (item_word w)) in
@@ -216,7 +216,7 @@ pub record MoveFacts (n : ℕ) (ws list : List ℕ) (g h : ℕ) (low ups ls : Li
 -- the word that the program stores as a member moves up keeps the list in order
 pub move_facts : (n : ℕ) (ws list : List ℕ) (g h : ℕ) (low ups : List ℕ) (i : ℕ) (w : ItemWord) → WordsKeepList n ws list → n ≤ ITEMS → 0 < length low
     → length ups ≤ GROUP_ITEMS → Splitting n (labels n ws) list g h low ups (evens (length ups) (BOTTOM_ROOM / (length ups + 1)) 0) (i + 1) → i < length ups
-    → w.version < 2 ^ 24 → w.group ≡ h → w.bottom ≡ get_or (evens (length ups) (BOTTOM_ROOM / (length ups + 1)) 0) i 0
+    → w.version < 2 ^ VERSION_BITS → w.group ≡ h → w.bottom ≡ get_or (evens (length ups) (BOTTOM_ROOM / (length ups + 1)) 0) i 0
     → MoveFacts n ws list g h low ups (evens (length ups) (BOTTOM_ROOM / (length ups + 1)) 0) i w
 move_facts n ws list g h [] ups i w s small some le sp i-in v-fits w-g w-b = absurd (omega arith)
 move_facts n ws list g h (x ∷ low) ups i w s small some le sp i-in v-fits w-g w-b =
@@ -333,7 +333,7 @@ pub record TopFacts (n : ℕ) (ws list : List ℕ) (g h : ℕ) (low ups ls : Lis
 pub top_facts : (n : ℕ) (ws list : List ℕ) (g h : ℕ) (low ups : List ℕ) (w : GroupWord) → WordsKeepList n ws list → 0 < length low
     → Segment (labels n ws) list g (low ++ ups) → Free n (labels n ws) list h → (labels n ws).top g < w.top → w.top < TOP_ROOM
     → ((z : ℕ) → member z list ≡ true → (labels n ws).top g < (labels n ws).top ((labels n ws).group z) → w.top < (labels n ws).top ((labels n ws).group z))
-    → w.version < 2 ^ 24 → TopFacts n ws list g h low ups (evens (length ups) (BOTTOM_ROOM / (length ups + 1)) 0) w
+    → w.version < 2 ^ VERSION_BITS → TopFacts n ws list g h low ups (evens (length ups) (BOTTOM_ROOM / (length ups + 1)) 0) w
 top_facts n ws list g h [] ups w s some seg f above high gap v-fits = absurd (omega arith)
 top_facts n ws list g h (x ∷ low) ups w s some seg f above high gap v-fits =
     let a = labels n ws in

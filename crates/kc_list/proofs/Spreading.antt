@@ -20,7 +20,7 @@ use Rattle.kc_list.specs.declared.sheet.Write.{Write}
 use Rattle.kc_list.proofs.Order.{AtFirst, AtFirst-mono, AtLast-mono, Agrees, order-parts, order-joined, Before-agrees}
 use Rattle.kc_list.proofs.WritesWord.{item_stored}
 use Rattle.kc_list.proofs.Putting.{item_agrees, Placed-agrees, ordered_from}
-use Rattle.kc_words.specs.declared.layout.TheConstants.{LAST_VERSION, ITEMS, BOTTOM_ROOM}
+use Rattle.kc_words.specs.declared.layout.TheConstants.{VERSION_BITS, LAST_VERSION, ITEMS, BOTTOM_ROOM}
 use Rattle.kc_list.specs.declared.limits.TheConstants.{GROUP_ITEMS}
 use Rattle.kc_words.proofs.Ordering.{InOrder-mono}
 use Rattle.kc_lists.proofs.Shared.{map-agree}
@@ -97,7 +97,8 @@ pub record Relabelled (n : ℕ) (ws list : List ℕ) (g : ℕ) (m : List ℕ) (i
 -- a member can get a new label with which the labels of its group ascend
 pub member-relabelled : (n : ℕ) (ws list : List ℕ) (g : ℕ) (m : List ℕ) (i : ℕ) (w : ItemWord) → WordsKeepList n ws list → n ≤ ITEMS
     → Segment (labels n ws) list g m
-    → i < length m → w.version < 2 ^ 24 → w.group ≡ g → Ascends 1 BOTTOM_ROOM (set (map (labels n ws).bottom m) i w.bottom) → Relabelled n ws list g m i w
+    → i < length m → w.version < 2 ^ VERSION_BITS → w.group ≡ g → Ascends 1 BOTTOM_ROOM (set (map (labels n ws).bottom m) i w.bottom)
+    → Relabelled n ws list g m i w
 member-relabelled n ws list g m i w s small seg i-in v-fits w-g asc =
     let y = get_or m i 0 in
     let a = labels n ws in
@@ -276,7 +277,8 @@ segment_below n ws list g m i s seg l = (s.inside (get_or m i 0) (segment_in (la
 -- the word that the program stores as a member gets a new label keeps the list in order
 pub relabel_facts : (n : ℕ) (ws list : List ℕ) (g : ℕ) (m : List ℕ) (i : ℕ) (w : ItemWord) → WordsKeepList n ws list → n ≤ ITEMS
     → Segment (labels n ws) list g m
-    → i < length m → w.version < 2 ^ 24 → w.group ≡ g → Ascends 1 BOTTOM_ROOM (set (map (labels n ws).bottom m) i w.bottom) → RelabelFacts n ws list g m i w
+    → i < length m → w.version < 2 ^ VERSION_BITS → w.group ≡ g → Ascends 1 BOTTOM_ROOM (set (map (labels n ws).bottom m) i w.bottom)
+    → RelabelFacts n ws list g m i w
 relabel_facts n ws list g m i w s small seg i-in v-fits w-g asc =
     let below : get_or m i 0 < n = segment_below n ws list g m i s seg i-in in
     let all = member-relabelled n ws list g m i w s small seg i-in v-fits w-g asc in

@@ -6,6 +6,7 @@ use Rattle.kc_words.specs.ItemWord.{item_of, item_word, IsFitting}
 use Rattle.kc_words.proofs.Packing.{item_of-item_word}
 use Rattle.kc_words.specs.declared.item.ItemWord.{ItemWord}
 use Rattle.kc_lists.specs.Lists.{member, without, right_after}
+use Rattle.kc_words.specs.declared.layout.TheConstants.{VERSION_BITS}
 use Rattle.kc_lists.proofs.Members.{member-without, without-member, without-none, Distinct-without}
 use Rattle.kc_words.specs.Order.{labels}
 use Rattle.kc_list.specs.Places.{Before, Placed, WordsKeepList, ItemStored, size_of}
@@ -44,7 +45,7 @@ pub record TakeFacts (n : ℕ) (ws list : List ℕ) (x : ℕ) (w : ItemWord) : T
   pub again : item_of (get_or (set ws (1 + x) (item_word w)) (1 + x) 0) ≡ w
 
 -- the word that the program stores as x is taken out has the list in order without x
-pub take_facts : (n : ℕ) (ws list : List ℕ) (x : ℕ) (w : ItemWord) → WordsKeepList n ws list → member x list ≡ true → w.version < 2 ^ 24 → w.group ≡ 0
+pub take_facts : (n : ℕ) (ws list : List ℕ) (x : ℕ) (w : ItemWord) → WordsKeepList n ws list → member x list ≡ true → w.version < 2 ^ VERSION_BITS → w.group ≡ 0
     → w.bottom ≡ 0
     → TakeFacts n ws list x w
 take_facts n ws list x w s x-in v g b =

@@ -22,7 +22,7 @@ use Rattle.kc_list.proofs.WritesWord.{group_stored}
 use Rattle.kc_list.proofs.Spreading.{map_stored, Ascends-at, written-more, place-in, two-apart}
 use Rattle.kc_list.proofs.Spreading.{WritesKeepOrder-none, WritesKeepOrder-push, raises_from, only-none}
 use Rattle.kc_list.proofs.Spreading.{only-more, member-map}
-use Rattle.kc_words.specs.declared.layout.TheConstants.{LAST_VERSION, TOP_ROOM}
+use Rattle.kc_words.specs.declared.layout.TheConstants.{VERSION_BITS, LAST_VERSION, TOP_ROOM}
 use Rattle.kc_lists.proofs.Counting.{member-get_or}
 
 -- the groups of a list begin with that of its first
@@ -146,7 +146,7 @@ runs-same f g (x ∷ y ∷ ys) h =
 
 -- a group can get a new label with which the labels of the groups ascend
 pub group-retopped : (n : ℕ) (ws list gs : List ℕ) (i : ℕ) (w : GroupWord) → WordsKeepList n ws list → gs ≡ runs (labels n ws).group list → i < length gs
-    → w.version < 2 ^ 24 → Ascends 1 TOP_ROOM (set (map (labels n ws).top gs) i w.top) → Retopped n ws list gs i w
+    → w.version < 2 ^ VERSION_BITS → Ascends 1 TOP_ROOM (set (map (labels n ws).top gs) i w.top) → Retopped n ws list gs i w
 group-retopped n ws [] gs i w s e l v-fits asc = absurd (omega (arith, ap length e))
 group-retopped n ws (x ∷ xs) gs i w s e l v-fits asc =
     let a = labels n ws in
@@ -203,7 +203,7 @@ pub record RetopFacts (n : ℕ) (ws list gs : List ℕ) (i : ℕ) (w : GroupWord
 
 -- the word that the program stores as a group gets a new label keeps the list in order
 pub retop_facts : (n : ℕ) (ws list gs : List ℕ) (i : ℕ) (w : GroupWord) → WordsKeepList n ws list → gs ≡ runs (labels n ws).group list → i < length gs
-    → w.version < 2 ^ 24 → Ascends 1 TOP_ROOM (set (map (labels n ws).top gs) i w.top) → RetopFacts n ws list gs i w
+    → w.version < 2 ^ VERSION_BITS → Ascends 1 TOP_ROOM (set (map (labels n ws).top gs) i w.top) → RetopFacts n ws list gs i w
 retop_facts n ws list gs i w s e l v-fits asc =
     let all = group-retopped n ws list gs i w s e l v-fits asc in
     let read : get_or (set ws (n + get_or gs i 0) (group_word w)) (n + get_or gs i 0) 0 ≡ group_word w =

@@ -1,28 +1,36 @@
 -- The tables of the tests open rightly, and their stores keep the logs legal.
-use Rattle.std.proofs.Common.{◌≡◌, ◌<◌, ◌≤◌, ◌+◌, ◌*◌, ℕ, suc, zero, true, false, List, [], ◌∷◌, ◌++◌, refl, sym, ◌∙◌, ap, subst, arith, inl, inr, get_or}
+use Rattle.std.proofs.Common.{◌≡◌, ◌<◌, ◌≤◌, ◌+◌, ◌*◌, ◌/◌, ℕ, suc, zero, true, false, List, [], ◌∷◌, ◌++◌, refl, sym, ◌∙◌, ap, subst, arith, inl, inr, get_or}
 use Rattle.std.proofs.lemmas.Bool.{false≢true, true≢false}
 use Rattle.kc_lists.specs.Lists.{member}
 use Rattle.kc_lists.proofs.Members.{member-cases}
-use Rattle.kc_words.specs.ItemWord.{item_of}
-use Rattle.kc_words.specs.GroupWord.{group_of}
+use Rattle.kc_words.specs.ItemWord.{item_of, item_word}
+use Rattle.kc_words.specs.GroupWord.{group_of, group_word}
 use Rattle.kc_words.specs.VertexWord.{vertex_of}
-use Rattle.kc_words.specs.NoteWord.{note_of}
+use Rattle.kc_words.specs.NoteWord.{note_of, note_word}
 use Rattle.kc_words.specs.Order.{Ordered}
-use Rattle.kc_words.specs.declared.layout.TheConstants.{ITEMS, LAST_VERSION}
+use Rattle.kc_words.specs.declared.layout.TheConstants.{ITEMS, LAST_VERSION, BOTTOM_ROOM, TOP_ROOM}
 use Rattle.kc_words.specs.declared.shape.Shape.{Shape}
 use Rattle.std.proofs.Math.Bridge.{le_prop}
-use Rattle.kc_words.specs.declared.note.NoteWord.TheVariants.{Nothing}
+use Rattle.kc_words.specs.declared.note.NoteWord.TheVariants.{Nothing, Put}
 use Rattle.kc_table.specs.declared.view.Event.{Event}
 use Rattle.kc_table.specs.Log.{event, Seen}
 use Rattle.kc_table.specs.TableState.{TableState, after_store, state_of}
 use Rattle.kc_table.specs.Legal.{Legal, IsTableOpening, StateHolds, MayStore, IsVersioned, version_of}
-use Rattle.kc_table.specs.Samples.{pair_shape, pair_opening}
-use Rattle.kc_order_list_tests.specs.Lone.{lone_shape, lone_words}
+use Rattle.kc_table.specs.Samples.{item, group, note, pair_shape, pair_opening, pair_put}
+use Rattle.kc_order_list_tests.specs.Lone.{lone_shape, lone_group, lone_words}
 use Rattle.kc_table.proofs.LegalLogs.{legal-nil, legal-push, state_of-nil, state_of-push}
+
+-- the words of the table of two items with this note and this word of item 1
+abbrev pair_words : ℕ → ℕ → List ℕ
+pair_words n second = n ∷ item 0 1 (BOTTOM_ROOM / 2) ∷ second ∷ group 0 (TOP_ROOM / 2) ∷ group 0 0 ∷ group 0 0 ∷ []
+
+-- the word of item 1 once it is put right after item 0
+abbrev pub second_put : ℕ
+second_put = item 1 1 (BOTTOM_ROOM / 4 * 3)
 
 -- each item's and each group's word of the table of two items opens with version 0
 pair_versions : (word : ℕ) → IsVersioned pair_shape word → version_of (get_or pair_opening word 0) ≡ 0
-unfolding item_of
+unfolding item_of item_word group_of group_word
 pair_versions zero h = absurd (omega (arith, h.0))
 pair_versions (suc zero) h = refl
 pair_versions (suc (suc zero)) h = refl
@@ -43,24 +51,24 @@ thirds_out x m = elim (member-cases (suc (suc x)) 0 (1 ∷ []) m) [
 ]
 
 -- the table of two items opens with its list in order, whatever the note is
-pair_ordered : (note : ℕ) → Ordered 2 (note ∷ 786432 ∷ 0 ∷ 549755813888 ∷ 0 ∷ 0 ∷ []) (0 ∷ [])
-unfolding item_of group_of
-pair_ordered note = record { pairs = tt; inside = inside; outside = outside }
+pair_ordered : (n : ℕ) → Ordered 2 (pair_words n (item 0 0 0)) (0 ∷ [])
+unfolding item_of item_word group_of group_word
+pair_ordered n = record { pairs = tt; inside = inside; outside = outside }
   where
     inside : (x : ℕ) → member x (0 ∷ []) ≡ true
-        → (0 < (item_of (get_or (note ∷ 786432 ∷ 0 ∷ 549755813888 ∷ 0 ∷ 0 ∷ []) (1 + x) 0)).group)
-        × ((item_of (get_or (note ∷ 786432 ∷ 0 ∷ 549755813888 ∷ 0 ∷ 0 ∷ []) (1 + x) 0)).group ≤ 3)
+        → (0 < (item_of (get_or (pair_words n (item 0 0 0)) (1 + x) 0)).group)
+        × ((item_of (get_or (pair_words n (item 0 0 0)) (1 + x) 0)).group ≤ 3)
     inside zero m = (omega arith, omega arith)
     inside (suc x) m = absurd (others_out x m)
 
-    outside : (x : ℕ) → x < 2 → member x (0 ∷ []) ≡ false → (item_of (get_or (note ∷ 786432 ∷ 0 ∷ 549755813888 ∷ 0 ∷ 0 ∷ []) (1 + x) 0)).group ≡ 0
+    outside : (x : ℕ) → x < 2 → member x (0 ∷ []) ≡ false → (item_of (get_or (pair_words n (item 0 0 0)) (1 + x) 0)).group ≡ 0
     outside zero l m = absurd (true≢false m)
     outside (suc zero) l m = refl
     outside (suc (suc x)) l m = absurd (omega (arith, l))
 
 -- the table of two items opens rightly
 pub pair_opens : IsTableOpening pair_shape pair_opening
-unfolding item_of
+unfolding item_of item_word group_of group_word
 pair_opens = record {
   one_each = refl;
   no_note = refl;
@@ -70,10 +78,10 @@ pair_opens = record {
 }
 
 -- the note that puts item 1 after item 0 may be its first store
-pub pair_first : Legal pair_shape pair_opening (event 0 9223372036856872960 ∷ [])
-unfolding state_of item_of note_of group_of vertex_of
+pub pair_first : Legal pair_shape pair_opening (note (Put 1 0) ∷ [])
+unfolding state_of item_of item_word note_of note_word group_of group_word vertex_of
 pair_first =
-    let may : MayStore pair_shape (state_of pair_shape pair_opening []) (event 0 9223372036856872960) = record {
+    let may : MayStore pair_shape (state_of pair_shape pair_opening []) (note (Put 1 0)) = record {
       there = omega arith;
       fits = omega arith;
       follows = tt;
@@ -81,33 +89,31 @@ pair_first =
       fresh = λ v. absurd (omega (arith, v.0));
       seals = λ v e. absurd (omega (arith, e));
     } in
-    legal-push pair_shape pair_opening [] (event 0 9223372036856872960) (legal-nil pair_shape pair_opening pair_opens) may record
-    { ordered = pair_ordered 9223372036856872960; stamps = λ v l. absurd (omega (arith, l)) }
-
--- the words of the table of two items after both stores
-abbrev pair_words : List ℕ
-pair_words = 9223372036856872960 ∷ 786432 ∷ 1099512545280 ∷ 549755813888 ∷ 0 ∷ 0 ∷ []
+    legal-push pair_shape pair_opening [] (note (Put 1 0)) (legal-nil pair_shape pair_opening pair_opens) may record
+    { ordered = pair_ordered (note_word (Put 1 0)); stamps = λ v l. absurd (omega (arith, l)) }
 
 -- with both stores made the list 0, 1 is in order
-pair_put-ordered : Ordered 2 pair_words (0 ∷ 1 ∷ [])
-unfolding item_of group_of
+pair_put-ordered : Ordered 2 (pair_words (note_word (Put 1 0)) second_put) (0 ∷ 1 ∷ [])
+unfolding item_of item_word group_of group_word
 pair_put-ordered = record { pairs = (inr (refl, omega arith), tt); inside = inside; outside = outside }
   where
-    inside : (x : ℕ) → member x (0 ∷ 1 ∷ []) ≡ true → (0 < (item_of (get_or pair_words (1 + x) 0)).group) × ((item_of (get_or pair_words (1 + x) 0)).group ≤ 3)
+    inside : (x : ℕ) → member x (0 ∷ 1 ∷ []) ≡ true
+        → (0 < (item_of (get_or (pair_words (note_word (Put 1 0)) second_put) (1 + x) 0)).group)
+        × ((item_of (get_or (pair_words (note_word (Put 1 0)) second_put) (1 + x) 0)).group ≤ 3)
     inside zero m = (omega arith, omega arith)
     inside (suc zero) m = (omega arith, omega arith)
     inside (suc (suc x)) m = absurd (thirds_out x m)
 
-    outside : (x : ℕ) → x < 2 → member x (0 ∷ 1 ∷ []) ≡ false → (item_of (get_or pair_words (1 + x) 0)).group ≡ 0
+    outside : (x : ℕ) → x < 2 → member x (0 ∷ 1 ∷ []) ≡ false → (item_of (get_or (pair_words (note_word (Put 1 0)) second_put) (1 + x) 0)).group ≡ 0
     outside zero l m = absurd (true≢false m)
     outside (suc zero) l m = absurd (true≢false m)
     outside (suc (suc x)) l m = absurd (omega (arith, l))
 
 -- item 1's word may be stored after the note that puts it
-pub pair_second : Legal pair_shape pair_opening (event 0 9223372036856872960 ∷ event 2 1099512545280 ∷ [])
-unfolding state_of item_of note_of group_of vertex_of
+pub pair_second : Legal pair_shape pair_opening pair_put
+unfolding state_of item_of item_word note_of note_word group_of group_word vertex_of
 pair_second =
-    let may : MayStore pair_shape (state_of pair_shape pair_opening (event 0 9223372036856872960 ∷ [])) (event 2 1099512545280) = record {
+    let may : MayStore pair_shape (state_of pair_shape pair_opening (note (Put 1 0) ∷ [])) (event 2 second_put) = record {
       there = omega arith;
       fits = omega arith;
       follows = refl;
@@ -115,12 +121,12 @@ pair_second =
       fresh = λ v. refl;
       seals = λ v e. absurd (omega (arith, e));
     } in
-    legal-push pair_shape pair_opening (event 0 9223372036856872960 ∷ []) (event 2 1099512545280) pair_first may record
+    legal-push pair_shape pair_opening (note (Put 1 0) ∷ []) (event 2 second_put) pair_first may record
     { ordered = pair_put-ordered; stamps = λ v l. absurd (omega (arith, l)) }
 
 -- the table of one item has its list in order, whatever version the group's word has
 lone_ordered : (version : ℕ) → Ordered 1 (lone_words version) (0 ∷ [])
-unfolding item_of group_of
+unfolding item_of item_word group_of group_word
 lone_ordered version = record { pairs = tt; inside = inside; outside = outside }
   where
     inside : (x : ℕ) → member x (0 ∷ []) ≡ true
@@ -134,7 +140,7 @@ lone_ordered version = record { pairs = tt; inside = inside; outside = outside }
 
 -- each item's and each group's word of the table of one item opens with version 0
 lone_versions : (word : ℕ) → IsVersioned lone_shape word → version_of (get_or (lone_words 0) word 0) ≡ 0
-unfolding item_of
+unfolding item_of item_word group_of group_word
 lone_versions zero h = absurd (omega (arith, h.0))
 lone_versions (suc zero) h = refl
 lone_versions (suc (suc zero)) h = refl
@@ -143,7 +149,7 @@ lone_versions (suc (suc (suc (suc w)))) h = absurd (omega (arith, h.1))
 
 -- the table of one item opens rightly
 pub lone_opens : IsTableOpening lone_shape (lone_words 0)
-unfolding item_of
+unfolding item_of item_word group_of group_word
 lone_opens = record {
   one_each = refl;
   no_note = refl;
@@ -159,15 +165,15 @@ pub record Stored (version : ℕ) (log : List Event) : Type 0 where
 
 -- the empty log has stored the group's word no times
 pub stored-none : Stored 0 []
-unfolding item_of group_of
+unfolding item_of item_word group_of group_word
 stored-none = record { legal = legal-nil lone_shape (lone_words 0) lone_opens; state = state_of-nil lone_shape (lone_words 0) }
 
 -- below the last version the group's word may be stored once more
 pub stored-more : (version : ℕ) (log : List Event) → version < LAST_VERSION → Stored version log
-    → Stored (version + 1) (log ++ event 2 ((version + 1) * 1099511627776 + 549755813888) ∷ [])
-unfolding item_of
+    → Stored (version + 1) (log ++ event 2 (lone_group (version + 1)) ∷ [])
+unfolding item_of item_word group_of group_word
 stored-more version log few h =
-    let e = event 2 ((version + 1) * 1099511627776 + 549755813888) in
+    let e = event 2 (lone_group (version + 1)) in
     let now : TableState = record { words = lone_words version; list = 0 ∷ []; note = Nothing; entries = []; unsealed = [] } in
     let may : MayStore lone_shape now e = record {
       there = omega arith;

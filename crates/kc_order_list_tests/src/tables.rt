@@ -4,10 +4,15 @@ ghost use mathlib.Core.List.{IsPrefix};
 ghost use Rattle.kc_order_list_tests.specs.Lone.{lone_shape, lone_words};
 
 use kc_table::{Pass, Words, WriterSeat, load, meet, open, shape, split, store, tell};
-use kc_words::Shape;
+use kc_words::{GroupWord, Shape, TOP_ROOM};
 use std::test::Fail;
 use std::thread;
 use std::thread::Threads;
+
+/// An item in group 1 whose label is the middle of the group's room, and a group whose label is the middle of the room of groups.
+const MIDDLE_ITEM: u64 = 786_432;
+
+const MIDDLE_GROUP: u64 = 549_755_813_888;
 
 /// A put of item 1 right after item 0: the note, and then the item's word.
 const PUT_NOTE: u64 = 9_223_372_036_856_872_960;
@@ -22,7 +27,7 @@ fn a_told_pass_and_one_split_from_it_load_what_was_stored(rt: HostRuntime) -> Re
         base: 0,
         version: 0,
     };
-    let opening = [0, 786_432, 0, 549_755_813_888, 0, 0];
+    let opening = [0, MIDDLE_ITEM, 0, MIDDLE_GROUP, 0, 0];
     let (words, mut seat, mut pass) = open(rt.alloc(), pair, opening.to_vec(rt.alloc())?)?;
     store(&words, &mut seat, 0, PUT_NOTE);
     store(&words, &mut seat, 2, PUT_ITEM);
@@ -32,7 +37,7 @@ fn a_told_pass_and_one_split_from_it_load_what_was_stored(rt: HostRuntime) -> Re
     let note = load(&words, &mut other, 0);
     meet(&words, &mut pass, other);
     let opened = load(&words, &mut pass, 1);
-    assert_eq!(rt; [told, note, opened], [PUT_ITEM, PUT_NOTE, 786_432]);
+    assert_eq!(rt; [told, note, opened], [PUT_ITEM, PUT_NOTE, MIDDLE_ITEM]);
     assert_eq!(rt; shape(&words).items, 2);
     Ok(())
 }
@@ -46,8 +51,11 @@ fn store_many(words: &Words, mut seat: WriterSeat)
     requires fresh { seat.log ≡ [] }
 {
     for stored in 0..STEPS {
-        let value = (u64::from(stored) + 1) * 1_099_511_627_776 + 549_755_813_888;
-        store(words, &mut seat, 2, value);
+        let word = GroupWord {
+            version: stored + 1,
+            top: TOP_ROOM / 2,
+        };
+        store(words, &mut seat, 2, word.pack());
     }
 }
 
@@ -96,10 +104,10 @@ fn loads_of_one_thread_never_go_back_under_stores_of_another(rt: HostRuntime) ->
         base: 0,
         version: 0,
     };
-    let opening = [0, 786_432, 549_755_813_888, 0];
+    let opening = [0, MIDDLE_ITEM, MIDDLE_GROUP, 0];
     let (words, seat, pass) = open(rt.alloc(), lone, opening.to_vec(rt.alloc())?)?;
     let (never_fell, last) = one_stores_and_one_loads(&rt, &words, seat, pass);
     assert!(rt; never_fell);
-    assert!(rt; last >= 549_755_813_888);
+    assert!(rt; last >= TOP_ROOM / 2);
     Ok(())
 }

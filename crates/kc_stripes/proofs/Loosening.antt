@@ -3,6 +3,7 @@ use Rattle.std.proofs.Common.{◌≡◌, ◌≤◌, ◌<◌, ℕ, true, List, []
 use Rattle.std.specs.Prelude.{Some, is_some}
 use Rattle.std.specs.Option.{unwrap_or}
 use mathlib.Core.List.{IsPrefix}
+use Rattle.kc_words.specs.declared.layout.TheConstants.{ITEMS}
 use Rattle.kc_lists.proofs.Members.{below_bound}
 use Rattle.kc_graph.proofs.RowsLemmas.{Distinct-from_increasing}
 use Rattle.kc_graph.specs.SimpleGraph.{SimpleGraph}
@@ -41,7 +42,7 @@ loose_none o start log size handed misses is begins = record {
 }
 
 -- no list of a vertex is longer than a table has vertices
-pub short_list : (table : TableName) (w : ℕ) (ws : List ℕ) → IsListOf table.shape.fixed w ws → length ws ≤ 2097150
+pub short_list : (table : TableName) (w : ℕ) (ws : List ℕ) → IsListOf table.shape.fixed w ws → length ws ≤ ITEMS
 short_list table w ws h =
     omega (arith, below_bound table.shape.fixed ws (Distinct-from_increasing ws h.ascends) h.within, table.shape.fixed_in, table.shape.few_items)
 
@@ -144,7 +145,7 @@ module _ {o : Opened} {start : List Event} {l : Loosely} where
   placed_below w is told = core_below o start l.seen l.kept w is.read told
 
   -- no list that was told is longer than a table has vertices
-  pub short_told : (w : ℕ) (ws : List ℕ) → IsLoose o start l → list_in w l.kept.edges ≡ Some ws → length ws ≤ 2097150
+  pub short_told : (w : ℕ) (ws : List ℕ) → IsLoose o start l → list_in w l.kept.edges ≡ Some ws → length ws ≤ ITEMS
   short_told w ws is told =
       let list : IsListOf l.size w (list_of l.kept w) = kept-list l.size w l.kept is.lists (ap is_some told) in
       let same : list_of l.kept w ≡ ws = ap (λ op. unwrap_or op []) told in

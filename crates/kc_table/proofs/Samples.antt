@@ -28,7 +28,7 @@ opening_list = refl
 
 -- a put of item 1 after item 0 in the table of two items makes the list 0, 1
 pub pair_put-list : (state_of pair_shape pair_opening pair_put).list ≡ 0 ∷ 1 ∷ []
-unfolding state_of item_of note_of
+unfolding state_of item_of item_word group_of group_word note_of note_word
 pair_put-list = refl
 
 -- item 2 put right after item 0 makes the list 0, 2, 1

@@ -1,5 +1,5 @@
 -- A small table with written-out logs, by which the laws show what the definitions mean.
-use Rattle.std.specs.Prelude.{ℕ, List, [], ◌∷◌, ◌++◌, true, false, refl}
+use Rattle.std.specs.Prelude.{ℕ, ◌*◌, ◌/◌, List, [], ◌∷◌, ◌++◌, true, false, refl}
 use Rattle.std.specs.FinSet as set
 use Rattle.std.proofs.lemmas.Bool.{leb-true}
 use Rattle.kc_graph.specs.SimpleGraph.{SimpleGraph}
@@ -9,7 +9,7 @@ use Rattle.kc_words.specs.VertexWord.{vertex_word}
 use Rattle.kc_words.specs.NoteWord.{note_word}
 use Rattle.kc_words.specs.declared.note.NoteWord.{NoteWord}
 use Rattle.kc_words.specs.declared.note.NoteWord.TheVariants.{Enter, Put, Take}
-use Rattle.kc_words.specs.declared.layout.TheConstants.{ITEMS, LAST_VERSION}
+use Rattle.kc_words.specs.declared.layout.TheConstants.{ITEMS, LAST_VERSION, BOTTOM_ROOM, TOP_ROOM}
 use Rattle.kc_words.specs.declared.shape.Shape.{Shape}
 use Rattle.kc_table.specs.declared.view.Event.{Event}
 use Rattle.kc_table.specs.Log.{event}
@@ -127,10 +127,10 @@ pair_shape = record {
   version_in = leb-true 0 LAST_VERSION refl;
 }
 
--- the opening words of the table of two items: item 0 is in group 1, and item 1 is in none
+-- the opening words of the table of two items: item 0 is in group 1, both in the middle of their rooms, and item 1 is in no group
 abbrev pub pair_opening : List ℕ
-pair_opening = 0 ∷ 786432 ∷ 0 ∷ 549755813888 ∷ 0 ∷ 0 ∷ []
+pair_opening = 0 ∷ item 0 1 (BOTTOM_ROOM / 2) ∷ item 0 0 0 ∷ group 0 (TOP_ROOM / 2) ∷ group 0 0 ∷ group 0 0 ∷ []
 
--- item 1 is put right after item 0
+-- item 1 is put right after item 0, in the middle of the room behind it
 abbrev pub pair_put : List Event
-pair_put = event 0 9223372036856872960 ∷ event 2 1099512545280 ∷ []
+pair_put = note (Put 1 0) ∷ event 2 (item 1 1 (BOTTOM_ROOM / 4 * 3)) ∷ []

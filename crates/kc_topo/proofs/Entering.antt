@@ -209,7 +209,7 @@ entered-now old now moved new rows more run a b note entry same k low fresh acyc
     )
 
 -- a run has no more members than there are vertices
-pub run-short : (seen : Seen) (rows : List (List ℕ)) (a b : ℕ) (run : List ℕ) → KeepsRows seen rows → IsRunFor seen a b run → length run ≤ 524288
+pub run-short : (seen : Seen) (rows : List (List ℕ)) (a b : ℕ) (run : List ℕ) → KeepsRows seen rows → IsRunFor seen a b run → length run ≤ VERTICES
 run-short seen rows a b run k is =
     let short = below_bound seen.table.shape.items run (turn-distinct run (list_after seen.table seen.log) is.turn)
     (λ v m. listed-low seen.table seen.log k.legal v ((is.members v).0 m).1.first) in

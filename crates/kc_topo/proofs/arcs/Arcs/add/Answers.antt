@@ -1,5 +1,6 @@
 -- A run has no more members than there are vertices, so what it needs is a small number.
 use Rattle.std.proofs.Common.{◌≤◌, length, sym, ap, ◌∙◌, subst, arith}
+use Rattle.kc_words.specs.declared.layout.TheConstants.{VERTICES}
 use Rattle.kc_table.specs.Log.{Seen}
 use Rattle.kc_topo.specs.Dags.{IsDagAlong, KeepsRows}
 use Rattle.kc_topo.proofs.Entering.{room-for, run-short}
@@ -7,7 +8,7 @@ use Rattle.kc_topo.proofs.arcs.Arcs.add.Goals.{After-len}
 use Rattle.kc_topo.proofs.arcs.Arcs.add.Goals as goal
 
 -- the run has no more members than there are vertices
-run-few : (c : After-len) → c.len.result ≤ 524288
+run-few : (c : After-len) → c.len.result ≤ VERTICES
 run-few c =
     let k = subst (λ (s : Seen). KeepsRows s c.self-2.inside.successors) (c.self-2.view_is ∙ c.in_ok-run.ensures.unchanged) c.self-2.invariant.0 in
     omega (arith, run-short _ _ _ _ _ k c.in_ok-run.ensures.run.0, c.len.ensures)
