@@ -19,19 +19,24 @@ shifted_pair a j b k p e q = ap (λ n. bit_or n b) (shl_whole a j k 64 p (omega 
 
 -- shifts and `|` of the three fields of an item's word are a sum of products where they fit
 pub shifted_three : (v g b : ℕ) → v < 2 ^ VERSION_BITS → g < 2 ^ GROUP_BITS → b < 2 ^ BOTTOM_BITS
-    → bit_or (bit_or (v * 2 ^ VERSION_SHIFT % 2 ^ 64) (g * 2 ^ BOTTOM_BITS % 2 ^ 64)) b ≡ v * 2 ^ VERSION_SHIFT + g * 2 ^ BOTTOM_BITS + b
+    → bit_or (bit_or (v * 2 ^ VERSION_SHIFT % 2 ^ 64) (g * 2 ^ BOTTOM_BITS % 2 ^ 64)) b
+    ≡ v * 2 ^ VERSION_SHIFT + g * 2 ^ BOTTOM_BITS + b
 shifted_three v g b p q r =
     let low : g * 2 ^ BOTTOM_BITS % 2 ^ 64 ≡ g * 2 ^ BOTTOM_BITS = shl_whole g GROUP_BITS BOTTOM_BITS 64 q (omega arith) in
-    let high : bit_or (v * 2 ^ VERSION_SHIFT % 2 ^ 64) (g * 2 ^ BOTTOM_BITS) ≡ v * 2 ^ VERSION_SHIFT + g * 2 ^ BOTTOM_BITS = shifted_pair v VERSION_BITS (g * 2 ^ BOTTOM_BITS) VERSION_SHIFT p refl (shl_below g GROUP_BITS BOTTOM_BITS q) in
+    let high : bit_or (v * 2 ^ VERSION_SHIFT % 2 ^ 64) (g * 2 ^ BOTTOM_BITS) ≡ v * 2 ^ VERSION_SHIFT + g * 2 ^ BOTTOM_BITS =
+    shifted_pair v VERSION_BITS (g * 2 ^ BOTTOM_BITS) VERSION_SHIFT p refl (shl_below g GROUP_BITS BOTTOM_BITS q) in
     let joined : v * 2 ^ VERSION_SHIFT + g * 2 ^ BOTTOM_BITS ≡ (v * 2 ^ GROUP_BITS + g) * 2 ^ BOTTOM_BITS = omega arith in
-    ap (λ n. bit_or (bit_or (v * 2 ^ VERSION_SHIFT % 2 ^ 64) n) b) low ∙ (ap (λ n. bit_or n b) (high ∙ joined) ∙ (or_shifted (v * 2 ^ GROUP_BITS + g) BOTTOM_BITS b r ∙ omega arith))
+    ap (λ n. bit_or (bit_or (v * 2 ^ VERSION_SHIFT % 2 ^ 64) n) b) low
+    ∙ (ap (λ n. bit_or n b) (high ∙ joined) ∙ (or_shifted (v * 2 ^ GROUP_BITS + g) BOTTOM_BITS b r ∙ omega arith))
 
 -- the fields of an item that fit are read again from its word
 pub item_of-item_word : (w : ItemWord) → item.IsFitting w → item_of (item_word w) ≡ w
 unfolding item_of item_word
 item_of-item_word w f =
-    let joined : w.version * 2 ^ VERSION_SHIFT + w.group * 2 ^ BOTTOM_BITS + w.bottom ≡ (w.version * 2 ^ GROUP_BITS + w.group) * 2 ^ BOTTOM_BITS + w.bottom = omega arith in
-    let joined' : w.version * 2 ^ VERSION_SHIFT + w.group * 2 ^ BOTTOM_BITS + w.bottom ≡ w.version * 2 ^ VERSION_SHIFT + (w.group * 2 ^ BOTTOM_BITS + w.bottom) = omega arith in
+    let joined : w.version * 2 ^ VERSION_SHIFT + w.group * 2 ^ BOTTOM_BITS + w.bottom
+    ≡ (w.version * 2 ^ GROUP_BITS + w.group) * 2 ^ BOTTOM_BITS + w.bottom = omega arith in
+    let joined' : w.version * 2 ^ VERSION_SHIFT + w.group * 2 ^ BOTTOM_BITS + w.bottom
+    ≡ w.version * 2 ^ VERSION_SHIFT + (w.group * 2 ^ BOTTOM_BITS + w.bottom) = omega arith in
     let v : (w.version * 2 ^ VERSION_SHIFT + w.group * 2 ^ BOTTOM_BITS + w.bottom) / 2 ^ VERSION_SHIFT ≡ w.version =
     ap (λ n. n / 2 ^ VERSION_SHIFT) joined' ∙ shr_high w.version VERSION_SHIFT (w.group * 2 ^ BOTTOM_BITS + w.bottom) (omega (arith, f.1, f.2)) in
     let g : (w.version * 2 ^ VERSION_SHIFT + w.group * 2 ^ BOTTOM_BITS + w.bottom) / 2 ^ BOTTOM_BITS % 2 ^ GROUP_BITS ≡ w.group =
@@ -52,7 +57,8 @@ unfolding item_of
 item_of-fits n h = (omega arith, omega arith, omega arith)
 
 -- the program's masks read an item's word as `item_of` does
-pub item_masked : (n : ℕ) → record { version = n / 2 ^ VERSION_SHIFT; group = bit_and (n / 2 ^ BOTTOM_BITS) GROUP_MASK; bottom = bit_and n BOTTOM_MASK } ≡ item_of n
+pub item_masked : (n : ℕ)
+    → record { version = n / 2 ^ VERSION_SHIFT; group = bit_and (n / 2 ^ BOTTOM_BITS) GROUP_MASK; bottom = bit_and n BOTTOM_MASK } ≡ item_of n
 unfolding item_of
 item_masked n = rw (and_mask (n / 2 ^ BOTTOM_BITS) GROUP_BITS, and_mask n BOTTOM_BITS)
 
@@ -96,7 +102,11 @@ pub record Joined (h l n : ℕ) : Type 0 where
 pub joined_facts : (h l : ℕ) → h < 2 ^ STAMP_BITS → l < 2 ^ CORE_BITS → Joined h l (bit_or (h * 2 ^ CORE_BITS % 2 ^ 64) l)
 joined_facts h l p q =
     let sum : bit_or (h * 2 ^ CORE_BITS % 2 ^ 64) l ≡ h * 2 ^ CORE_BITS + l = shifted_pair h STAMP_BITS l CORE_BITS p refl q in
-    record { sum = sum; high = ap (λ n. n / 2 ^ CORE_BITS) sum ∙ shr_high h CORE_BITS l q; low = ap (λ n. n % 2 ^ CORE_BITS) sum ∙ mod_low h CORE_BITS l q }
+    record {
+      sum = sum;
+      high = ap (λ n. n / 2 ^ CORE_BITS) sum ∙ shr_high h CORE_BITS l q;
+      low = ap (λ n. n % 2 ^ CORE_BITS) sum ∙ mod_low h CORE_BITS l q;
+    }
 
 -- the word 0 has version 0
 pub none_version : (item_of 0).version ≡ 0

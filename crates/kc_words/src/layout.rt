@@ -20,23 +20,20 @@ pub const STAMP_BITS: u32 = 32;
 /// Bits of the core number in a vertex's word.
 pub const CORE_BITS: u32 = 32;
 
-/// Bits of an update's index in a note.
-pub const INDEX_BITS: u32 = 22;
+/// Bits of an update's index in the word that stands before an entry's note.
+pub const INDEX_BITS: u32 = 32;
 
 /// Bits of a vertex in a note.
-pub const VERTEX_BITS: u32 = 19;
+pub const VERTEX_BITS: u32 = 30;
 
 /// Bits of an item in a note.
-pub const ITEM_BITS: u32 = 21;
+pub const ITEM_BITS: u32 = 31;
 
 /// The place of the two bits that say which note it is.
 pub const KIND_SHIFT: u32 = 62;
 
 /// The place of the bit that says whether a note's edge is added.
 pub const ADD_SHIFT: u32 = 61;
-
-/// The place of an update's index in a note.
-pub const INDEX_SHIFT: u32 = ADD_SHIFT - INDEX_BITS;
 
 /// The last version that an item's or a group's word can have: one less than 2 to the power of `VERSION_BITS`.
 pub const LAST_VERSION: u32 = 16_777_215;
@@ -48,8 +45,9 @@ pub const ITEMS: u32 = 2_097_150;
 /// The most vertices that a graph may have. A vertex's number is below it.
 pub const VERTICES: u32 = 524_288;
 
-/// The most indices of updates. The index of an update is below it.
-pub const INDICES: u32 = 4_194_304;
+/// The most indices of updates. The index of an update is below it. Entries are numbered from 1, so no number of one is the last that
+/// its bits allow either.
+pub const INDICES: u32 = 4_294_967_294;
 
 /// The bottom labels of a group are above 0 and below this.
 pub const BOTTOM_ROOM: u64 = 524_288;

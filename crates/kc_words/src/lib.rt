@@ -11,6 +11,7 @@
 pub mod again;
 pub mod group;
 pub mod item;
+pub mod laws;
 pub mod layout;
 pub mod note;
 pub mod shape;

@@ -17,8 +17,8 @@ returns-after-add-clause-word c =
       | then-add w ↦ w.kind-is ∙ sym (ap (λ b. cond b 3 2) w.if-add.true)
       | else-add w ↦ w.kind-is ∙ sym (ap (λ b. cond b 3 2) w.if-add.false)
     ] in
-    rw (c.from.ensures, c.from-in-Enter.ensures, c.from-in-Enter-2.ensures)
-    (enter_packed c.args.self c.if-add.kind c.in-Enter.add c.in-Enter.index c.in-Enter.u c.in-Enter.v c.requires c.in-Enter.is kind).word
+    rw (c.from.ensures, c.from-in-Enter.ensures)
+    (enter_packed c.args.self c.if-add.kind c.in-Enter.add c.in-Enter.u c.in-Enter.v c.requires c.in-Enter.is kind).word
 
 pub returns-after-add-clause-read_back : goal.returns-after-add-clause-read_back
 returns-after-add-clause-read_back c =
@@ -27,8 +27,8 @@ returns-after-add-clause-read_back c =
       | then-add w ↦ w.kind-is ∙ sym (ap (λ b. cond b 3 2) w.if-add.true)
       | else-add w ↦ w.kind-is ∙ sym (ap (λ b. cond b 3 2) w.if-add.false)
     ] in
-    rw (c.from.ensures, c.from-in-Enter.ensures, c.from-in-Enter-2.ensures)
-    (enter_packed c.args.self c.if-add.kind c.in-Enter.add c.in-Enter.index c.in-Enter.u c.in-Enter.v c.requires c.in-Enter.is kind).back
+    rw (c.from.ensures, c.from-in-Enter.ensures)
+    (enter_packed c.args.self c.if-add.kind c.in-Enter.add c.in-Enter.u c.in-Enter.v c.requires c.in-Enter.is kind).back
 
 pub returns-in-Put-clause-word : goal.returns-in-Put-clause-word
 returns-in-Put-clause-word c = rw (c.from-in-Put.ensures, c.from-in-Put-2.ensures) (put_packed c.args.self c.in-Put.x c.in-Put.p c.requires c.in-Put.is).word
