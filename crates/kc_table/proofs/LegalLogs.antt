@@ -11,7 +11,7 @@ use Rattle.kc_words.specs.declared.note.NoteWord.{NoteWord}
 use Rattle.kc_words.specs.declared.note.NoteWord.TheVariants.{Nothing, Enter, Put, Take}
 use Rattle.kc_table.specs.declared.entry.Entry.{Entry}
 use Rattle.kc_table.proofs.Prefixes.{prefix_self, prefix_trans}
-use Rattle.kc_table.specs.TableState.{entered, TableState, opened, after_store, after_stores, state_of}
+use Rattle.kc_table.specs.TableState.{entered, index_in, TableState, opened, after_store, after_stores, state_of}
 use Rattle.kc_table.specs.Legal.{IsTableOpening, MayStore, StateHolds, Legal, LegalFrom}
 use Rattle.kc_table.specs.Edges.{after_entry, after_entries}
 
@@ -104,16 +104,16 @@ module _ (shape : Shape) (opening : List ℕ) where
   legal-last log e h = (legal_from-back shape (opened shape opening) log (e ∷ []) h.1).0
 
 -- one store keeps the entries, or adds one behind them
-entered-prefix : (note : NoteWord) (entries : List Entry) → IsPrefix entries (entered note entries)
-entered-prefix Nothing entries = prefix_self entries
-entered-prefix (Enter add index u v) entries = (record { index = index; add = add; u = u; v = v } ∷ [], refl)
-entered-prefix (Put x p) entries = prefix_self entries
-entered-prefix (Take x) entries = prefix_self entries
+entered-prefix : (index : ℕ) (note : NoteWord) (entries : List Entry) → IsPrefix entries (entered index note entries)
+entered-prefix index Nothing entries = prefix_self entries
+entered-prefix index (Enter add u v) entries = (record { index = index; add = add; u = u; v = v } ∷ [], refl)
+entered-prefix index (Put x p) entries = prefix_self entries
+entered-prefix index (Take x) entries = prefix_self entries
 
 -- one store of any kind keeps the entries, or adds one behind them
 after_store-entries : (shape : Shape) (s : TableState) (e : Event) → IsPrefix s.entries (after_store shape s e).entries
 after_store-entries shape s e =
-    elim (cases_Bool (eqb e.word 0)) [ inl t ↦ rw t (entered-prefix (note_of e.value) s.entries) | inr f ↦ rw f (prefix_self s.entries) ]
+    elim (cases_Bool (eqb e.word 0)) [ inl t ↦ rw t (entered-prefix (index_in s) (note_of e.value) s.entries) | inr f ↦ rw f (prefix_self s.entries) ]
 
 -- stores keep the entries, and add some behind them
 after_stores-entries : (shape : Shape) (s : TableState) (es : List Event) → IsPrefix s.entries (after_stores shape s es).entries

@@ -15,7 +15,7 @@ use Rattle.kc_table.specs.declared.entry.Entry.{Entry}
 use Rattle.kc_table.specs.Log.{event}
 use Rattle.kc_table.specs.TableState.{TableState, opened, state_of}
 use Rattle.kc_table.specs.Legal.{FollowsNote, StateHolds, IsNewer, Legal, MayNote, MayStore, IsTableOpening, Seals, last_entry, stamp_in}
-use Rattle.kc_table.specs.Samples.{shape, item, vertex, note, opening, one_put, put_and_take, open_section, sealed_section, two_entries}
+use Rattle.kc_table.specs.Samples.{shape, item, vertex, note, opening, one_put, put_and_take, open_section, sealed_section, two_entries, next_index}
 use Rattle.kc_table.proofs.LegalLogs.{legal-nil, legal-push}
 
 -- what holds of each that stands in a list
@@ -62,9 +62,9 @@ holds-of s pairs groups others stamp = record {
   stamps = λ v low. let is : v ≡ 0 = omega (arith, low) in subst (λ k. stamp_in shape s k ≤ last_entry shape s) (sym is) stamp;
 }
 
--- a note may be stored that the note before it and the rule of notes allow
-note-may : (s : TableState) (n : NoteWord) → note_word n < 2 ^ 64 → FollowsNote s.note 0 → MayNote shape s (note_of (note_word n)) → MayStore shape s (note n)
-note-may s n fits follows may = record {
+-- a word of a note may be stored that the note before it and the rule of notes allow
+word-may : (s : TableState) (value : ℕ) → value < 2 ^ 64 → FollowsNote s.note 0 → MayNote shape s (note_of value) → MayStore shape s (event 0 value)
+word-may s value fits follows may = record {
   there = omega arith;
   fits = fits;
   follows = follows;
@@ -72,6 +72,10 @@ note-may s n fits follows may = record {
   fresh = λ versioned. absurd (omega (arith, versioned.0));
   seals = λ v is. absurd (omega (arith, is));
 }
+
+-- and so may a note
+note-may : (s : TableState) (n : NoteWord) → note_word n < 2 ^ 64 → FollowsNote s.note 0 → MayNote shape s (note_of (note_word n)) → MayStore shape s (note n)
+note-may s n = word-may s (note_word n)
 
 -- the word of an item may be stored with the next version
 item-may : (s : TableState) (x value : ℕ) → x < 3 → value < 2 ^ 64 → FollowsNote s.note (1 + x) → IsNewer (slice_index s.words (1 + x)) value
@@ -173,17 +177,22 @@ pub open_section-legal : Legal shape opening open_section
 unfolding state_of item_of item_word group_of group_word note_of note_word vertex_of vertex_word
 open_section-legal =
     let edge : Entry = record { index = 7; add = true; u = 0; v = 1 } in
-    let entered : Legal shape opening (note (Enter true 7 0 1) ∷ []) =
-    legal-push shape opening [] (note (Enter true 7 0 1)) (legal-nil shape opening opening-opens)
-    (note-may (state_of shape opening []) (Enter true 7 0 1) (lit< tt) tt refl)
-    (opening-holds (Enter true 7 0 1) (edge ∷ []) [] (note_word (Enter true 7 0 1))) in
-    let noted : Legal shape opening (note (Enter true 7 0 1) ∷ note (Put 0 1) ∷ []) =
-    legal-push shape opening (note (Enter true 7 0 1) ∷ []) (note (Put 0 1)) entered
-    (note-may (state_of shape opening (note (Enter true 7 0 1) ∷ [])) (Put 0 1) (lit< tt) tt
+    let first = next_index 7 ∷ [] in
+    let second = first ++ note (Enter true 0 1) ∷ [] in
+    let third = second ++ note (Put 0 1) ∷ [] in
+    let indexed : Legal shape opening first =
+    legal-push shape opening [] (next_index 7) (legal-nil shape opening opening-opens)
+    (word-may (state_of shape opening []) 7 (lit< tt) tt tt) (opening-holds Nothing [] [] 7) in
+    let entered : Legal shape opening second =
+    legal-push shape opening first (note (Enter true 0 1)) indexed (note-may (state_of shape opening first) (Enter true 0 1) (lit< tt) tt refl)
+    (opening-holds (Enter true 0 1) (edge ∷ []) [] (note_word (Enter true 0 1))) in
+    let noted : Legal shape opening third =
+    legal-push shape opening second (note (Put 0 1)) entered
+    (note-may (state_of shape opening second) (Put 0 1) (lit< tt) tt
     (omega arith, refl, λ e. omega (arith, e), λ low. record { inside = omega arith; once = omega arith }))
     (opening-holds (Put 0 1) (edge ∷ []) [] (note_word (Put 0 1))) in
-    legal-push shape opening (note (Enter true 7 0 1) ∷ note (Put 0 1) ∷ []) (event 1 (item 1 1 30)) noted
-    (item-may (state_of shape opening (note (Enter true 7 0 1) ∷ note (Put 0 1) ∷ [])) 0 (item 1 1 30) (omega arith) (lit< tt) refl refl)
+    legal-push shape opening third (event 1 (item 1 1 30)) noted
+    (item-may (state_of shape opening third) 0 (item 1 1 30) (omega arith) (lit< tt) refl refl)
     (behind-holds (note_word (Put 0 1)) (vertex 0 0) Nothing (edge ∷ []) (0 ∷ []) (omega arith))
 
 -- then the vertex may be sealed
@@ -199,7 +208,12 @@ sealed_section-legal =
 pub two_entries-legal : Legal shape opening two_entries
 unfolding state_of item_of item_word group_of group_word note_of note_word vertex_of vertex_word
 two_entries-legal =
-    legal-push shape opening sealed_section (note (Enter false 8 0 1)) sealed_section-legal
-    (note-may (state_of shape opening sealed_section) (Enter false 8 0 1) (lit< tt) tt refl)
-    (behind-holds (note_word (Enter false 8 0 1)) (vertex 2 1) (Enter false 8 0 1)
-    (record { index = 7; add = true; u = 0; v = 1 } ∷ record { index = 8; add = false; u = 0; v = 1 } ∷ []) [] (omega arith))
+    let edge : Entry = record { index = 7; add = true; u = 0; v = 1 } in
+    let first = sealed_section ++ next_index 8 ∷ [] in
+    let indexed : Legal shape opening first =
+    legal-push shape opening sealed_section (next_index 8) sealed_section-legal
+    (word-may (state_of shape opening sealed_section) 8 (lit< tt) tt tt) (behind-holds 8 (vertex 2 1) Nothing (edge ∷ []) [] (omega arith)) in
+    legal-push shape opening first (note (Enter false 0 1)) indexed
+    (note-may (state_of shape opening first) (Enter false 0 1) (lit< tt) tt refl)
+    (behind-holds (note_word (Enter false 0 1)) (vertex 2 1) (Enter false 0 1)
+    (edge ∷ record { index = 8; add = false; u = 0; v = 1 } ∷ []) [] (omega arith))

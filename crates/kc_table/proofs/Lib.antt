@@ -1,3 +1,4 @@
+pub mod Entries
 pub mod Fresh
 pub mod LegalLogs
 pub mod LegalSamples

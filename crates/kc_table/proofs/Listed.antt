@@ -83,7 +83,7 @@ pub record Listed (shape : Shape) (list : List ℕ) : Type 0 where
 -- what an announced item owes
 abbrev pub Announced : Shape → List ℕ → NoteWord → Type 0
 Announced shape list Nothing = Unit {0}
-Announced shape list (Enter add index u v) = Unit {0}
+Announced shape list (Enter add u v) = Unit {0}
 Announced shape list (Put x p) = (x < shape.items) × (member p list ≡ true) × (x ≢ p)
 Announced shape list (Take x) = shape.fixed ≤ x
 
@@ -96,7 +96,7 @@ pub record Stands (shape : Shape) (s : TableState) : Type 0 where
 moved-listed : (shape : Shape) (list : List ℕ) (word : ℕ) (note : NoteWord) → Announced shape list note → Listed shape list
     → Listed shape (moved note word list)
 moved-listed shape list word Nothing a h = h
-moved-listed shape list word (Enter add index u v) a h = h
+moved-listed shape list word (Enter add u v) a h = h
 moved-listed shape list word (Put x p) a h =
     elim (cases_Bool (eqb word (1 + x))) [
       | inl t ↦
@@ -143,7 +143,7 @@ moved-listed shape list word (Take x) a h =
 -- a note that may be stored announces what an announced item owes
 note-announced : (shape : Shape) (s : TableState) (note : NoteWord) → MayNote shape s note → Announced shape s.list note
 note-announced shape s Nothing h = tt
-note-announced shape s (Enter add index u v) h = tt
+note-announced shape s (Enter add u v) h = tt
 note-announced shape s (Put x p) h = (h.0, h.1, h.2)
 note-announced shape s (Take x) h = h.1
 

@@ -13,7 +13,7 @@ use Rattle.kc_words.specs.declared.shape.Shape.{Shape}
 use Rattle.kc_table.specs.declared.entry.Entry.{Entry}
 use Rattle.kc_table.specs.declared.view.Event.{Event}
 use Rattle.kc_table.specs.Sections.{number_after, stamp_after, item_put, puts_from, puts_in}
-use Rattle.kc_table.specs.TableState.{TableState, opened, after_store, after_stores, state_of, first_vertex, entered, unsealed_from, sealed}
+use Rattle.kc_table.specs.TableState.{TableState, opened, after_store, after_stores, state_of, first_vertex, entered, index_in, unsealed_from, sealed}
 use Rattle.kc_table.specs.Legal.{MayStore, MayNote, FollowsNote, IsClosed, Legal, last_entry}
 use Rattle.kc_table.proofs.LegalLogs.{state_of-nil, state_of-push, legal-prefix, legal-last, legal-holds}
 use Rattle.kc_table.proofs.Listed.{list-stands}
@@ -71,7 +71,7 @@ module _ (shape : Shape) (opening : List ℕ) where
   -- a store to the note word puts nothing
   pub note-puts : (note : NoteWord) (word : ℕ) → word ≡ 0 → item_put note word ≡ []
   note-puts Nothing word z = refl
-  note-puts (Enter add index u v) word z = refl
+  note-puts (Enter add u v) word z = refl
   note-puts (Put x p) word z = ap (λ b. cond b (x ∷ []) []) (ne_eqb word (1 + x) (λ q. omega (arith, q, z)))
   note-puts (Take x) word z = refl
 
@@ -107,14 +107,14 @@ record Tells (v stamp number : ℕ) (unsealed puts : List ℕ) : Type 0 where
   is_open : member v unsealed ≡ true → member v puts ≡ true
 
 -- a note: where it is that of an entry, a section begins that has put nothing
-tells-note : (v stamp base : ℕ) (entries : List Entry) (us : List ℕ) (puts : ℕ → List ℕ) (note : NoteWord) → stamp ≤ base + length entries
+tells-note : (v stamp base index : ℕ) (entries : List Entry) (us : List ℕ) (puts : ℕ → List ℕ) (note : NoteWord) → stamp ≤ base + length entries
     → ((k : ℕ) → base + length entries < k → puts k ≡ []) → (0 < length entries → Tells v stamp (base + length entries) us (puts (base + length entries)))
-    → 0 < length (entered note entries)
-    → Tells v stamp (base + length (entered note entries)) (unsealed_from note us) (puts (base + length (entered note entries)))
-tells-note v stamp base entries us puts Nothing low late h some = h some
-tells-note v stamp base entries us puts (Put x p) low late h some = h some
-tells-note v stamp base entries us puts (Take x) low late h some = h some
-tells-note v stamp base entries us puts (Enter add index u w) low late h some =
+    → 0 < length (entered index note entries)
+    → Tells v stamp (base + length (entered index note entries)) (unsealed_from note us) (puts (base + length (entered index note entries)))
+tells-note v stamp base index entries us puts Nothing low late h some = h some
+tells-note v stamp base index entries us puts (Put x p) low late h some = h some
+tells-note v stamp base index entries us puts (Take x) low late h some = h some
+tells-note v stamp base index entries us puts (Enter add u w) low late h some =
     let one : Entry = record { index = index; add = add; u = u; v = w } in
     let long = length-append entries (one ∷ []) in
     let none : puts (base + length (entries ++ one ∷ [])) ≡ [] = late (base + length (entries ++ one ∷ [])) (omega (arith, long)) in
@@ -188,16 +188,18 @@ module _ (shape : Shape) (opening : List ℕ) (v : ℕ) (low : v < shape.fixed) 
       let s = state_of shape opening log in
       let next = state_of shape opening (log ++ e ∷ []) in
       let note = note_of e.value in
+      let index = index_in s in
       let push : next ≡ after_store shape s e = state_of-push shape opening log e in
       let noted : eqb e.word 0 ≡ true = eq-eqb e.word 0 is in
-      let entries : next.entries ≡ entered note s.entries = ap (λ z. z.entries) push ∙ rw noted refl in
+      let entries : next.entries ≡ entered index note s.entries = ap (λ z. z.entries) push ∙ rw noted refl in
       let unsealed : next.unsealed ≡ unsealed_from note s.unsealed = ap (λ z. z.unsealed) push ∙ rw noted refl in
       let stamp = stamp-other shape opening log e v (λ k. omega (arith, k, is)) in
-      let told = tells-note v (stamp_after shape opening log v) shape.base s.entries s.unsealed (puts_in shape opening log) note
+      let told = tells-note v (stamp_after shape opening log v) shape.base index s.entries s.unsealed (puts_in shape opening log) note
       ((legal-holds shape opening log before).stamps v low) (puts_in-late shape opening log) h (omega (arith, some, ap length entries)) in
-      let number : number_after shape opening (log ++ e ∷ []) ≡ shape.base + length (entered note s.entries) = ap (λ es. shape.base + length es) entries in
+      let number : number_after shape opening (log ++ e ∷ []) ≡ shape.base + length (entered index note s.entries) =
+      ap (λ es. shape.base + length es) entries in
       let puts : puts_in shape opening (log ++ e ∷ []) (number_after shape opening (log ++ e ∷ []))
-      ≡ puts_in shape opening log (shape.base + length (entered note s.entries)) =
+      ≡ puts_in shape opening log (shape.base + length (entered index note s.entries)) =
       ap (puts_in shape opening (log ++ e ∷ [])) number ∙ adds-none shape opening log e _ (note-puts shape opening s.note e.word is) in
       subst (λ (z : (ℕ × ℕ) × (List ℕ × List ℕ)). Tells v z.0.0 z.0.1 z.1.0 z.1.1)
       (λ i. ((sym stamp i, sym number i), (sym unsealed i, sym puts i))) told
@@ -234,19 +236,19 @@ entry-noted shape s e =
     ]
 
 -- one that enters is allowed only where the section before is closed
-entry-closed : (shape : Shape) (s : TableState) (e : Event) → MayStore shape s e → e.word ≡ 0 → length s.entries < length (entered (note_of e.value) s.entries)
-    → IsClosed s
+entry-closed : (shape : Shape) (s : TableState) (e : Event) → MayStore shape s e → e.word ≡ 0
+    → length s.entries < length (entered (index_in s) (note_of e.value) s.entries) → IsClosed s
 entry-closed shape s e may is more = (nothing-left (note_of e.value) (may.note is) more, quiet s.note may.follows)
   where
-    nothing-left : (note : NoteWord) → MayNote shape s note → length s.entries < length (entered note s.entries) → s.unsealed ≡ []
+    nothing-left : (note : NoteWord) → MayNote shape s note → length s.entries < length (entered (index_in s) note s.entries) → s.unsealed ≡ []
     nothing-left Nothing m l = absurd (omega (arith, l))
-    nothing-left (Enter add index u v) m l = m
+    nothing-left (Enter add u v) m l = m
     nothing-left (Put x p) m l = absurd (omega (arith, l))
     nothing-left (Take x) m l = absurd (omega (arith, l))
 
     quiet : (note : NoteWord) → FollowsNote note e.word → (word : ℕ) → FollowsNote note word
     quiet Nothing f word = tt
-    quiet (Enter add index u v) f word = tt
+    quiet (Enter add u v) f word = tt
     quiet (Put x p) f word = absurd (omega (arith, f, is))
     quiet (Take x) f word = absurd (omega (arith, f, is))
 
@@ -259,7 +261,7 @@ module _ (shape : Shape) (opening : List ℕ) where
       let push = ap (λ (z : TableState). z.entries) (state_of-push shape opening before e) in
       let more : length s.entries < length (after_store shape s e).entries = omega (arith, lt, ap length push) in
       let is = entry-noted shape s e more in
-      let noted : (after_store shape s e).entries ≡ entered (note_of e.value) s.entries = rw (eq-eqb e.word 0 is) refl in
+      let noted : (after_store shape s e).entries ≡ entered (index_in s) (note_of e.value) s.entries = rw (eq-eqb e.word 0 is) refl in
       entry-closed shape s e (legal-last shape opening before e h) is (omega (arith, more, ap length noted))
 
   -- the section that was the last after `before` has put v exactly where v had its number as stamp there

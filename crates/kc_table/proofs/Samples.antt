@@ -16,7 +16,8 @@ use Rattle.kc_table.specs.Edges.{edges_after}
 use Rattle.kc_table.specs.Sections.{puts_in}
 use Rattle.kc_table.specs.TableState.{state_of}
 use Rattle.kc_table.specs.Legal.{Legal, IsTableOpening}
-use Rattle.kc_table.specs.Samples.{shape, item, vertex, note, opening, one_put, put_and_take, open_section, sealed_section, sealed_unmoved, two_entries}
+use Rattle.kc_table.specs.Samples.{shape, item, vertex, note, opening, one_put, put_and_take, open_section, sealed_section, sealed_unmoved}
+use Rattle.kc_table.specs.Samples.{two_entries, next_index}
 use Rattle.kc_table.specs.Samples.{pair_shape, pair_opening, pair_put, no_edges, one_edge, longer_opening, noted_opening, ahead_opening, missing_opening}
 use Rattle.kc_table.specs.Samples.{tied_opening, stamped_opening}
 use Rattle.kc_table.proofs.LegalLogs.{legal-last, legal-holds}
@@ -188,10 +189,10 @@ unfolding state_of item_of item_word group_of group_word note_of note_word
 take_of_no_vertex h = let l : 1 ≤ 0 = ((legal-last shape opening [] (note (Take 0)) h).note refl).1 in omega (arith, l)
 
 -- no section may begin while a vertex of the one before is open
-pub section-closed : Legal shape opening (open_section ++ note (Enter false 8 0 1) ∷ []) → ⊥
+pub section-closed : Legal shape opening (open_section ++ note (Enter false 0 1) ∷ []) → ⊥
 unfolding state_of item_of item_word group_of group_word note_of note_word
 section-closed h = let e : ◌≡◌ {A = List ℕ} (0 ∷ []) [] =
-    (legal-last shape opening open_section (note (Enter false 8 0 1)) h).note refl in omega (arith, ap length e)
+    (legal-last shape opening open_section (note (Enter false 0 1)) h).note refl in omega (arith, ap length e)
 
 -- no item's word may be stored with the version that it has
 pub version_stays : Legal shape opening (event 2 (item 0 1 25) ∷ []) → ⊥
@@ -219,7 +220,7 @@ own_stamp h =
 pub sealed_where_put : Legal shape opening sealed_unmoved → ⊥
 unfolding state_of note_of note_word vertex_of vertex_word
 sealed_where_put h =
-    let e : false ≡ true = ((legal-last shape opening (note (Enter true 7 0 1) ∷ []) (event 8 (vertex 2 0)) h).seals 0 refl).put in
+    let e : false ≡ true = ((legal-last shape opening (next_index 7 ∷ note (Enter true 0 1) ∷ []) (event 8 (vertex 2 0)) h).seals 0 refl).put in
     false≢true e
 
 -- no vertex's word may be stored twice in a section

@@ -46,7 +46,7 @@ module _ (shape : Shape) (v : ℕ) where
   pub puts-none : (list : List ℕ) (note : NoteWord) (word : ℕ) → Announced shape list note → FollowsNote note word → first_vertex shape ≤ word
       → item_put note word ≡ []
   puts-none list Nothing word a f high = refl
-  puts-none list (Enter add index u w) word a f high = refl
+  puts-none list (Enter add u w) word a f high = refl
   puts-none list (Put x p) word a f high = absurd (let below : x < shape.items = a.0 in omega (arith, f, high, below))
   puts-none list (Take x) word a f high = refl
 
@@ -54,7 +54,7 @@ module _ (shape : Shape) (v : ℕ) where
   pub put_in-is : v < shape.fixed → (note : NoteWord) (word : ℕ) (us : List ℕ)
       → member v (put_in shape note word us) ≡ (member v (item_put note word) || member v us)
   put_in-is low Nothing word us = refl
-  put_in-is low (Enter add index u w) word us = refl
+  put_in-is low (Enter add u w) word us = refl
   put_in-is low (Take x) word us = refl
   put_in-is low (Put x p) word us =
       elim (eqb word (1 + x)) as (λ b. member v (cond (b && ltb x shape.fixed) (x ∷ us) us) ≡ (member v (cond b (x ∷ []) []) || member v us)) [
@@ -102,7 +102,7 @@ module _ (shape : Shape) (v : ℕ) where
   -- a note but that of an entry leaves open what is open, and that comes only where nothing is
   note-open : (s : TableState) (note : NoteWord) → MayNote shape s note → member v s.unsealed ≡ true → member v (unsealed_from note s.unsealed) ≡ true
   note-open s Nothing h m = m
-  note-open s (Enter add index u w) h m = absurd (false≢true (sym (ap (member v) h) ∙ m))
+  note-open s (Enter add u w) h m = absurd (false≢true (sym (ap (member v) h) ∙ m))
   note-open s (Put x p) h m = m
   note-open s (Take x) h m = m
 
@@ -118,7 +118,7 @@ module _ (shape : Shape) (v : ℕ) where
   -- a store that puts the vertex is to its item's word
   pub put-word : (note : NoteWord) (word : ℕ) → member v (item_put note word) ≡ true → word ≡ 1 + v
   put-word Nothing word m = absurd (false≢true m)
-  put-word (Enter add index u w) word m = absurd (false≢true m)
+  put-word (Enter add u w) word m = absurd (false≢true m)
   put-word (Take x) word m = absurd (false≢true m)
   put-word (Put x p) word m =
       elim (cases_Bool (eqb word (1 + x))) [

@@ -32,7 +32,7 @@ IsVersioned shape word = (1 ≤ word) × (word < first_vertex shape)
 -- After a Put or a Take note its item's word is stored.
 abbrev pub FollowsNote : NoteWord → ℕ → Type 0
 FollowsNote Nothing word = Unit {0}
-FollowsNote (Enter add index u v) word = Unit {0}
+FollowsNote (Enter add u v) word = Unit {0}
 FollowsNote (Put x p) word = word ≡ 1 + x
 FollowsNote (Take x) word = word ≡ 1 + x
 
@@ -49,7 +49,7 @@ pub record MayPut (shape : Shape) (s : TableState) (x : ℕ) : Type 0 where
 -- A section ends where nothing is left open.
 abbrev pub MayNote : Shape → TableState → NoteWord → Type 0
 MayNote shape s Nothing = Unit {0}
-MayNote shape s (Enter add index u v) = s.unsealed ≡ []
+MayNote shape s (Enter add u v) = s.unsealed ≡ []
 MayNote shape s (Put x p) = (x < shape.items) × (member p s.list ≡ true) × (x ≢ p) × (x < shape.fixed → MayPut shape s x)
 MayNote shape s (Take x) = (member x s.list ≡ true) × (shape.fixed ≤ x)
 

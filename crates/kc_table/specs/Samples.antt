@@ -48,6 +48,10 @@ opening = 0 ∷ item 0 1 10 ∷ item 0 1 20 ∷ item 0 0 0 ∷ group 0 100 ∷ g
 abbrev pub note : NoteWord → Event
 note n = event 0 (note_word n)
 
+-- the store of the index that the next entry has
+abbrev pub next_index : ℕ → Event
+next_index index = event 0 index
+
 -- Logs that are legal. ---------------------------------------------------------------------------
 
 -- item 2 is put right after item 0
@@ -60,7 +64,7 @@ put_and_take = one_put ++ note (Take 1) ∷ event 2 (item 1 0 0) ∷ []
 
 -- an edge 0 1 is entered, and vertex 0 is put right after item 1
 abbrev pub open_section : List Event
-open_section = note (Enter true 7 0 1) ∷ note (Put 0 1) ∷ event 1 (item 1 1 30) ∷ []
+open_section = next_index 7 ∷ note (Enter true 0 1) ∷ note (Put 0 1) ∷ event 1 (item 1 1 30) ∷ []
 
 -- the open section, and then the word of vertex 0 is stored
 abbrev pub sealed_section : List Event
@@ -68,13 +72,13 @@ sealed_section = open_section ++ event 8 (vertex 2 1) ∷ []
 
 -- the sealed section, and then the edge is taken out again, and nothing moves
 abbrev pub two_entries : List Event
-two_entries = sealed_section ++ note (Enter false 8 0 1) ∷ []
+two_entries = sealed_section ++ next_index 8 ∷ note (Enter false 0 1) ∷ []
 
 -- A log that is not legal. -------------------------------------------------------------------------
 
 -- an edge is entered and vertex 0 is not put; then its word is stored, as if it had been
 abbrev pub sealed_unmoved : List Event
-sealed_unmoved = note (Enter true 7 0 1) ∷ event 8 (vertex 2 0) ∷ []
+sealed_unmoved = next_index 7 ∷ note (Enter true 0 1) ∷ event 8 (vertex 2 0) ∷ []
 
 -- Graphs of two vertices. --------------------------------------------------------------------------
 
@@ -92,7 +96,7 @@ one_edge = record { size = 2; edges = set.from_list ((0, 1) ∷ []) }
 abbrev pub longer_opening : List ℕ
 longer_opening = opening ++ 0 ∷ []
 
--- a note, of kind nothing
+-- the index of an entry, in place of no note
 abbrev pub noted_opening : List ℕ
 noted_opening = 1 ∷ item 0 1 10 ∷ item 0 1 20 ∷ item 0 0 0 ∷ group 0 100 ∷ group 0 0 ∷ group 0 0 ∷ group 0 0 ∷ vertex 0 0 ∷ []
 

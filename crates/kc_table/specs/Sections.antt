@@ -18,7 +18,7 @@ stamp_after shape opening log v = stamp_in shape (state_of shape opening log) v
 -- the item that a store to this word puts, where the store before it announced so
 abbrev pub item_put : NoteWord → ℕ → List ℕ
 item_put Nothing word = []
-item_put (Enter add index u v) word = []
+item_put (Enter add u v) word = []
 item_put (Put x p) word = if word == 1 + x then x ∷ [] else []
 item_put (Take x) word = []
 

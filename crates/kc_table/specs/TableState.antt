@@ -1,7 +1,7 @@
 -- What a log has made of a table: its words, the list that its notes stand for, the entries, and what the last section has left open.
-use Rattle.std.specs.Prelude.{ℕ, zero, suc, ◌+◌, ◌*◌, ◌-◌, List, [], ◌∷◌, ◌++◌, Bool, slice_set, nat_lt, nat_le, ◌&&◌, if◌then◌else◌, ◌==◌}
+use Rattle.std.specs.Prelude.{ℕ, zero, suc, ◌+◌, ◌*◌, ◌-◌, List, [], ◌∷◌, ◌++◌, Bool, slice_index, slice_set, nat_lt, nat_le, ◌&&◌, if◌then◌else◌, ◌==◌}
 use Rattle.kc_lists.specs.Lists.{without, right_after}
-use Rattle.kc_words.specs.NoteWord.{note_of}
+use Rattle.kc_words.specs.NoteWord.{note_of, index_of}
 use Rattle.kc_words.specs.Order.{Labels, labels}
 use Rattle.kc_words.specs.declared.note.NoteWord.{NoteWord}
 use Rattle.kc_words.specs.declared.note.NoteWord.TheVariants.{Nothing, Enter, Put, Take}
@@ -37,31 +37,35 @@ listed a (suc x) = if a.group x == 0 then listed a x else placed a x (listed a x
 abbrev pub opened : Shape → List ℕ → TableState
 opened shape opening = record { words = opening; list = listed (labels shape.items opening) shape.items; note = Nothing; entries = []; unsealed = [] }
 
--- an Enter note is an entry
-abbrev pub entered : NoteWord → List Entry → List Entry
-entered Nothing entries = entries
-entered (Enter add index u v) entries = entries ++ record { index = index; add = add; u = u; v = v } ∷ []
-entered (Put x p) entries = entries
-entered (Take x) entries = entries
+-- an Enter note is an entry, of the update whose index was stored before it
+abbrev pub entered : ℕ → NoteWord → List Entry → List Entry
+entered index Nothing entries = entries
+entered index (Enter add u v) entries = entries ++ record { index = index; add = add; u = u; v = v } ∷ []
+entered index (Put x p) entries = entries
+entered index (Take x) entries = entries
+
+-- the index of an update that stands in the word of the note
+abbrev pub index_in : TableState → ℕ
+index_in s = index_of (slice_index s.words 0)
 
 -- an Enter note begins a section, in which nothing was put yet
 abbrev pub unsealed_from : NoteWord → List ℕ → List ℕ
 unsealed_from Nothing unsealed = unsealed
-unsealed_from (Enter add index u v) unsealed = []
+unsealed_from (Enter add u v) unsealed = []
 unsealed_from (Put x p) unsealed = unsealed
 unsealed_from (Take x) unsealed = unsealed
 
 -- The store that follows a Put or a Take note, to the word of its item, moves the item to right after `p`, or takes it out.
 abbrev pub moved : NoteWord → ℕ → List ℕ → List ℕ
 moved Nothing word list = list
-moved (Enter add index u v) word list = list
+moved (Enter add u v) word list = list
 moved (Put x p) word list = if word == 1 + x then right_after x p (without x list) else list
 moved (Take x) word list = if word == 1 + x then without x list else list
 
 -- a vertex that was put is open until its word is stored
 abbrev pub put_in : Shape → NoteWord → ℕ → List ℕ → List ℕ
 put_in shape Nothing word unsealed = unsealed
-put_in shape (Enter add index u v) word unsealed = unsealed
+put_in shape (Enter add u v) word unsealed = unsealed
 put_in shape (Put x p) word unsealed = if word == 1 + x && nat_lt x shape.fixed then x ∷ unsealed else unsealed
 put_in shape (Take x) word unsealed = unsealed
 
@@ -84,7 +88,7 @@ after_store shape s e =
       words = slice_set s.words e.word e.value;
       list = s.list;
       note = note_of e.value;
-      entries = entered (note_of e.value) s.entries;
+      entries = entered (index_in s) (note_of e.value) s.entries;
       unsealed = unsealed_from (note_of e.value) s.unsealed;
     } else record {
       words = slice_set s.words e.word e.value;

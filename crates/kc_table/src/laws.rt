@@ -1,9 +1,11 @@
 //! What the definitions of a log mean, as laws over the definitions alone.
 //!
 //! Each function does nothing, and its contract is the law.
-ghost use Rattle.std.specs.Prelude.{◌≡◌, ◌≢◌, ◌+◌, ◌<◌, ◌≤◌, ◌⊎◌, ◌↔◌, ℕ, Bool, List, [], ◌∷◌, ◌++◌, length, true, false};
+ghost use Rattle.std.specs.Prelude.{◌≡◌, ◌≢◌, ◌+◌, ◌<◌, ◌≤◌, ◌^◌, ◌⊎◌, ◌↔◌, ℕ, Bool, List, [], ◌∷◌, ◌++◌, length, true, false};
 ghost use mathlib.Core.List.{IsPrefix};
 ghost use Rattle.kc_lists.specs.Lists.{Distinct, member};
+ghost use Rattle.kc_words.specs.NoteWord.{IsFitting, note_word};
+ghost use Rattle.kc_words.specs.declared.layout.TheConstants.{INDEX_BITS};
 ghost use Rattle.kc_words.specs.declared.note.NoteWord.TheVariants.{Enter, Put, Take};
 ghost use Rattle.kc_words.specs.declared.shape.Shape.{Shape};
 ghost use Rattle.kc_table.specs.declared.view.Event.{Event};
@@ -89,6 +91,18 @@ pub fn a_stamp_tells_whether_its_section_put_the_vertex()
         ↔ (stamp_after shape opening before v ≡ number_after shape opening before) }
 {}
 
+/// An update is entered by two stores to the word of the note. Its index announces nothing, and leaves list and entries as they were. The
+/// note then adds the entry with this index behind those before, and its section is open.
+pub fn an_entry_has_the_index_that_was_stored_before_its_note()
+    ensures index { (shape : Shape) (opening : List ℕ) (log : List Event) (index : ℕ) → index < 2 ^ INDEX_BITS
+        → ((state_of shape opening (log ++ event 0 index ∷ [])).list ≡ (state_of shape opening log).list)
+        × ((state_of shape opening (log ++ event 0 index ∷ [])).entries ≡ (state_of shape opening log).entries) }
+    ensures entry { (shape : Shape) (opening : List ℕ) (log : List Event) (index u v : ℕ) (add : Bool) → Legal shape opening log
+        → index < 2 ^ INDEX_BITS → IsFitting (Enter add u v)
+        → (state_of shape opening ((log ++ event 0 index ∷ []) ++ event 0 (note_word (Enter add u v)) ∷ [])).entries
+        ≡ (state_of shape opening log).entries ++ record { index = index; add = add; u = u; v = v } ∷ [] }
+{}
+
 /// The list of a legal log has distinct items of the table, and each vertex.
 pub fn the_list_has_distinct_items_and_each_vertex()
     ensures distinct { (shape : Shape) (opening : List ℕ) (log : List Event) → Legal shape opening log → Distinct (state_of shape opening log).list }
@@ -156,7 +170,7 @@ pub fn each_condition_of_opening_words_counts()
 pub fn each_condition_of_a_store_counts()
     // There is no word 9.
     ensures there { Legal sample.shape sample.opening (event 9 0 ∷ []) → ⊥ }
-    // The value has 65 bits; what a word would hold of it is a note that item 1 is taken.
+    // The value has 65 bits; what a word would hold of it is the index 1.
     ensures fits { Legal sample.shape sample.opening (event 0 18446744073709551617 ∷ []) → ⊥ }
     // After the note on item 2 the word of item 1 is stored.
     ensures follows { Legal sample.shape sample.opening (sample.note (Put 2 0) ∷ event 2 (sample.item 1 1 12) ∷ []) → ⊥ }
@@ -175,7 +189,7 @@ pub fn each_condition_of_a_store_counts()
     // Item 0 is a vertex.
     ensures take_of_no_vertex { Legal sample.shape sample.opening (sample.note (Take 0) ∷ []) → ⊥ }
     // A section begins while a vertex of the one before is open.
-    ensures closed { Legal sample.shape sample.opening (sample.open_section ++ sample.note (Enter false 8 0 1) ∷ []) → ⊥ }
+    ensures closed { Legal sample.shape sample.opening (sample.open_section ++ sample.note (Enter false 0 1) ∷ []) → ⊥ }
     // The version of item 1 stays, or rises by two.
     ensures version_stays { Legal sample.shape sample.opening (event 2 (sample.item 0 1 25) ∷ []) → ⊥ }
     ensures version_leaps { Legal sample.shape sample.opening (event 2 (sample.item 2 1 25) ∷ []) → ⊥ }
