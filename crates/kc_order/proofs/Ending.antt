@@ -16,7 +16,7 @@ use Rattle.kc_list.specs.Sheets as sheet
 use Rattle.kc_table.specs.declared.view.Event.{Event}
 use Rattle.kc_table.specs.declared.entry.Entry.{Entry}
 use Rattle.kc_table.specs.Log.{event, value_at}
-use Rattle.kc_table.specs.TableState.{TableState, after_store, state_of, first_vertex, word_count, moved, entered, unsealed_from, put_in, sealed}
+use Rattle.kc_table.specs.TableState.{TableState, after_store, state_of, first_vertex, word_count, moved, entered, index_in, unsealed_from, put_in, sealed}
 use Rattle.kc_table.specs.Legal as legal
 use Rattle.kc_table.proofs.LegalLogs.{legal-push, state_of-push, state_of-words}
 use Rattle.kc_order.proofs.Relabelling.{Goes, ordered-agree, value-fits, set-agree}
@@ -28,7 +28,7 @@ noted s v =
       words = set s.words 0 v;
       list = s.list;
       note = note_of v;
-      entries = entered (note_of v) s.entries;
+      entries = entered (index_in s) (note_of v) s.entries;
       unsealed = unsealed_from (note_of v) s.unsealed;
     }
 
@@ -58,7 +58,7 @@ pub record Ends (shape : Shape) (s : TableState) (ws : List ℕ) (n : NoteWord) 
   pub note_is : note_of v ≡ n
   pub note_fits : v < 2 ^ 64
   pub may : legal.MayNote shape s n
-  pub no_entry : (entries : List Entry) → entered n entries ≡ entries
+  pub no_entry : (index : ℕ) (entries : List Entry) → entered index n entries ≡ entries
   pub follows : legal.FollowsNote n (1 + x)
   pub x_in : x < shape.items
   pub last_is : last.word ≡ 1 + x
@@ -94,7 +94,7 @@ put_or_take-ends shape opening log ws n v x last after lawful h within =
       fresh = λ k. absurd (omega (arith, k.0));
       seals = λ k is. absurd (omega (arith, is));
     } in
-    let entries : t.entries ≡ s.entries = ap (λ z. entered z s.entries) h.note_is ∙ h.no_entry s.entries in
+    let entries : t.entries ≡ s.entries = ap (λ z. entered (index_in s) z s.entries) h.note_is ∙ h.no_entry (index_in s) s.entries in
     let last-entry : legal.last_entry shape t ≡ legal.last_entry shape s = ap (λ es. shape.base + length es) entries in
     let note-words : (w : ℕ) → 1 ≤ w → get_or t.words w 0 ≡ get_or s.words w 0 = λ w low. get_or-set_other s.words 0 w v 0 (λ k. omega (arith, low, k)) in
     let note-stamp : (k : ℕ) → legal.stamp_in shape t k ≡ legal.stamp_in shape s k =

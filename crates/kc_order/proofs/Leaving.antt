@@ -12,7 +12,7 @@ use Rattle.kc_words.specs.declared.shape.Shape.{Shape}
 use Rattle.kc_table.specs.declared.entry.Entry.{Entry}
 use Rattle.kc_table.specs.declared.view.Event.{Event}
 use Rattle.kc_table.specs.Log.{Seen, TableName, event}
-use Rattle.kc_table.specs.TableState.{TableState, after_store, after_stores, state_of, first_vertex, entered, unsealed_from, put_in, sealed}
+use Rattle.kc_table.specs.TableState.{TableState, after_store, after_stores, state_of, first_vertex, entered, index_in, unsealed_from, put_in, sealed}
 use Rattle.kc_table.specs.Legal.{FollowsNote, IsVersioned}
 use Rattle.kc_table.proofs.LegalLogs.{after_stores-append, state_of-words}
 use Rattle.kc_order.specs.Writers.{EndsWith, LeavesBeside, entries_after, unsealed_after, vertex_word_after, with_open}
@@ -21,16 +21,16 @@ use Rattle.kc_order.proofs.Relabelling.{relabelled, after-relabel}
 
 -- a note of a put or a take enters nothing and begins no section
 pub record IsOfItem (note : NoteWord) : Type 0 where
-  pub no_entry : (entries : List Entry) → entered note entries ≡ entries
+  pub no_entry : (index : ℕ) (entries : List Entry) → entered index note entries ≡ entries
   pub no_section : (unsealed : List ℕ) → unsealed_from note unsealed ≡ unsealed
 
 -- a put's note enters nothing and begins no section
 pub put-of_item : (x p : ℕ) → IsOfItem (Put x p)
-put-of_item x p = record { no_entry = λ entries. refl; no_section = λ unsealed. refl }
+put-of_item x p = record { no_entry = λ index entries. refl; no_section = λ unsealed. refl }
 
 -- a take's note enters nothing and begins no section
 pub take-of_item : (x : ℕ) → IsOfItem (Take x)
-take-of_item x = record { no_entry = λ entries. refl; no_section = λ unsealed. refl }
+take-of_item x = record { no_entry = λ index entries. refl; no_section = λ unsealed. refl }
 
 module _ (shape : Shape) where
   -- the word of vertex v in a state
@@ -57,7 +57,7 @@ module _ (shape : Shape) where
       let e = event (1 + x) last in
       let after : after_store shape t e ≡ ended shape t e = after-item shape t e (omega arith) in
       subst (λ z. Left s z (put_in shape note (1 + x) s.unsealed)) (sym after) record {
-        entries = ap (λ z. entered z s.entries) is ∙ of.no_entry s.entries;
+        entries = ap (λ z. entered (index_in s) z s.entries) is ∙ of.no_entry (index_in s) s.entries;
         unsealed_is = (λ i. put_in shape (is i) (1 + x) (sealed shape (1 + x) (unsealed_from (is i) s.unsealed)))
             ∙ (ap (λ z. put_in shape note (1 + x) (sealed shape (1 + x) z)) (of.no_section s.unsealed)
             ∙ ap (put_in shape note (1 + x)) (sealed-none x s.unsealed low));

@@ -59,7 +59,7 @@ not_note w l = ne_eqb w 0 (λ e. omega (arith, l, e))
 -- a store of a word where nothing is announced moves no item
 pub store-quiet : (note : NoteWord) (w : ℕ) (list : List ℕ) → ((v : ℕ) → legal.FollowsNote note v) → moved note w list ≡ list
 store-quiet Nothing w list q = refl
-store-quiet (Enter add index u v) w list q = refl
+store-quiet (Enter add u v) w list q = refl
 store-quiet (Put x p) w list q = absurd (omega (arith, q 0))
 store-quiet (Take x) w list q = absurd (omega (arith, q 0))
 
@@ -67,7 +67,7 @@ store-quiet (Take x) w list q = absurd (omega (arith, q 0))
 pub put_in-quiet : (shape : Shape) (note : NoteWord) (w : ℕ) (unsealed : List ℕ) → ((v : ℕ) → legal.FollowsNote note v)
     → put_in shape note w unsealed ≡ unsealed
 put_in-quiet shape Nothing w unsealed q = refl
-put_in-quiet shape (Enter add index u v) w unsealed q = refl
+put_in-quiet shape (Enter add u v) w unsealed q = refl
 put_in-quiet shape (Put x p) w unsealed q = absurd (omega (arith, q 0))
 put_in-quiet shape (Take x) w unsealed q = refl
 

@@ -15,7 +15,7 @@ use Rattle.kc_words.specs.declared.note.NoteWord.TheVariants.{Put}
 use Rattle.kc_words.specs.declared.shape.Shape.{Shape}
 use Rattle.kc_table.specs.declared.view.Event.{Event}
 use Rattle.kc_table.specs.Log.{Seen, TableName, event}
-use Rattle.kc_table.specs.TableState.{TableState, after_store, after_stores, state_of, entered}
+use Rattle.kc_table.specs.TableState.{TableState, after_store, after_stores, state_of, entered, index_in}
 use Rattle.kc_table.specs.Legal.{FollowsNote, IsVersioned, Legal}
 use Rattle.kc_table.proofs.LegalLogs.{after_stores-append, legal-prefix}
 use Rattle.kc_table.proofs.Listed.{list-stands}
@@ -62,7 +62,7 @@ put_stores-pause shape note value x last is of relabels s versioned quiet [] bac
 put_stores-pause shape note value x last is of [] s versioned quiet (d ∷ []) back e =
     let here : d ≡ event 0 value = ap (first_or d) e in
     inl (subst (λ (z : Event). HasPaused s (after_store shape s z)) (sym here)
-    record { list = refl; entries = ap (λ z. entered z s.entries) is ∙ of.no_entry s.entries })
+    record { list = refl; entries = ap (λ z. entered (index_in s) z s.entries) is ∙ of.no_entry (index_in s) s.entries })
 put_stores-pause shape note value x last is of [] s versioned quiet (d ∷ (f ∷ front)) [] e = inr refl
 put_stores-pause shape note value x last is of [] s versioned quiet (d ∷ (f ∷ front)) (b ∷ back) e =
     absurd (omega (arith, ap length e, length-append front (b ∷ back)))

@@ -5,21 +5,22 @@ use Rattle.std.proofs.lemmas.Bool.{cases_eq}
 use Rattle.kc_lists.specs.Lists.{without}
 use Rattle.kc_words.specs.VertexWord.{vertex_of, vertex_word}
 use Rattle.kc_words.specs.NoteWord.{note_of, note_word, IsFitting}
-use Rattle.kc_words.proofs.Notes.{note_of-note_word}
+use Rattle.kc_words.proofs.Notes.{index_noted, note_of-note_word}
 use Rattle.kc_words.specs.Order.{Ordered}
-use Rattle.kc_words.specs.declared.layout.TheConstants.{CORE_BITS, STAMP_BITS}
-use Rattle.kc_words.specs.declared.note.NoteWord.{NoteWord}
-use Rattle.kc_words.specs.declared.note.NoteWord.TheVariants.{Enter}
+use Rattle.kc_words.specs.declared.layout.TheConstants.{CORE_BITS, INDEX_BITS, STAMP_BITS}
+use Rattle.kc_words.specs.declared.note.NoteWord.TheVariants.{Nothing, Enter}
+use Rattle.kc_words.specs.declared.shape.Shape.{Shape}
 use Rattle.kc_list.specs.Plain.{Plain}
 use Rattle.kc_table.specs.declared.entry.Entry.{Entry}
 use Rattle.kc_table.specs.declared.view.Event.{Event}
 use Rattle.kc_table.specs.Log.{Seen, event}
-use Rattle.kc_table.specs.TableState.{TableState, after_store, state_of, first_vertex, word_count, entered, unsealed_from, sealed}
+use Rattle.kc_table.specs.TableState.{TableState, after_store, state_of, first_vertex, word_count, index_in, sealed}
 use Rattle.kc_table.specs.Legal as legal
+use Rattle.kc_table.proofs.Entries.{after_store-noted, state_of-entry, state_of-index, with_entry, with_index}
 use Rattle.kc_table.proofs.LegalLogs.{legal-push, legal-holds, state_of-push, state_of-words}
 use Rattle.kc_table.proofs.Listed.{list-stands}
 use Rattle.kc_table.proofs.Steps.{value_at-other}
-use Rattle.kc_order.specs.Writers.{LeavesBeside, Stores, Tied, entries_after, unsealed_after, vertex_word_after}
+use Rattle.kc_order.specs.Writers.{LeavesBeside, Stores, StoresEntry, Tied, entries_after, unsealed_after, vertex_word_after, with_store}
 use Rattle.kc_order.proofs.Ending.{ended, after-item}
 use Rattle.kc_order.proofs.Leaving.{leaves-state, state-word}
 use Rattle.kc_order.proofs.Relabelling.{ordered-agree, put_in-quiet, store-quiet}
@@ -72,55 +73,77 @@ stored-aside seen plain e tied may aside t is t-list t-words stamps quiet =
       },
     )
 
+-- a store to the word of the note leaves the stamps of the vertices
+stamp-kept : (shape : Shape) (words : List ℕ) (value v : ℕ)
+    → (vertex_of (get_or (set words 0 value) (first_vertex shape + v) 0)).stamp ≡ (vertex_of (get_or words (first_vertex shape + v) 0)).stamp
+stamp-kept shape words value v =
+    ap (λ (z : ℕ). (vertex_of z).stamp) (get_or-set_other words 0 (first_vertex shape + v) value 0 (λ e. omega (arith, e)))
+
+-- an index may be stored where nothing is announced; the plain list stays tied
+pub indexed_at : (seen : Seen) (plain : Plain) (index : ℕ) → Tied seen plain → index < 2 ^ INDEX_BITS
+    → legal.Legal seen.table.shape seen.table.opening (seen.log ++ event 0 index ∷ [])
+    × ((now : Seen) → now ≡ with_store seen 0 index → Tied now plain)
+indexed_at seen plain index tied small =
+    let shape = seen.table.shape in
+    let s = state_of shape seen.table.opening seen.log in
+    let is : note_of index ≡ Nothing = (index_noted index small).0 in
+    let t : TableState = with_index s index in
+    let may : legal.MayStore shape s (event 0 index) = record {
+      there = omega arith;
+      fits = omega (arith, small);
+      follows = tied.quiet 0;
+      note = λ _. subst (legal.MayNote shape s) (sym is) tt;
+      fresh = λ k. absurd (omega (arith, k.0));
+      seals = λ k e. absurd (omega (arith, e));
+    } in
+    let stamp : (k : ℕ) → legal.stamp_in shape t k ≡ legal.stamp_in shape s k = λ k. stamp-kept shape s.words index k in
+    stored-aside seen plain (event 0 index) tied may (λ w low high e. omega (arith, e, low)) t (after_store-noted shape s index Nothing is) refl refl
+    (λ k l. omega (arith, stamp k, (legal-holds shape seen.table.opening seen.log tied.legal).stamps k l))
+    (λ w. tt)
+
 -- the note of an entry whose numbers fit has 64 bits
-enter-fits : (add : Bool) (index u v : ℕ) → IsFitting (Enter add index u v) → note_word (Enter add index u v) < 2 ^ 64
+enter-fits : (add : Bool) (u v : ℕ) → IsFitting (Enter add u v) → note_word (Enter add u v) < 2 ^ 64
 unfolding note_word
-enter-fits true index u v h = omega (arith, h.0, h.1, h.2)
-enter-fits false index u v h = omega (arith, h.0, h.1, h.2)
+enter-fits true u v h = omega (arith, h.0, h.1)
+enter-fits false u v h = omega (arith, h.0, h.1)
 
 -- an Enter note may be stored where no vertex is left to seal; the plain list stays tied
-pub entered_at : (seen : Seen) (plain : Plain) (add : Bool) (index u v : ℕ) → Tied seen plain → IsFitting (Enter add index u v)
+pub entered_at : (seen : Seen) (plain : Plain) (add : Bool) (u v : ℕ) → Tied seen plain → IsFitting (Enter add u v)
     → (state_of seen.table.shape seen.table.opening seen.log).unsealed ≡ []
-    → let e = event 0 (note_word (Enter add index u v)) in
+    → let e = event 0 (note_word (Enter add u v)) in
     legal.Legal seen.table.shape seen.table.opening (seen.log ++ e ∷ [])
     × ((now : Seen) → now ≡ record { table = seen.table; log = seen.log ++ e ∷ [] } → Tied now plain)
-entered_at seen plain add index u v tied fitting closed =
+entered_at seen plain add u v tied fitting closed =
     let shape = seen.table.shape in
-    let n = Enter add index u v in
+    let n = Enter add u v in
     let value = note_word n in
     let s = state_of shape seen.table.opening seen.log in
     let is : note_of value ≡ n = note_of-note_word n fitting in
+    let entry : Entry = record { index = index_in s; add = add; u = u; v = v } in
     let t : TableState =
     record {
       words = set s.words 0 value;
       list = s.list;
       note = n;
-      entries = s.entries ++ record { index = index; add = add; u = u; v = v } ∷ [];
+      entries = s.entries ++ entry ∷ [];
       unsealed = [];
     } in
     let may : legal.MayStore shape s (event 0 value) = record {
       there = omega arith;
-      fits = enter-fits add index u v fitting;
+      fits = enter-fits add u v fitting;
       follows = tied.quiet 0;
       note = λ _. subst (legal.MayNote shape s) (sym is) closed;
       fresh = λ k. absurd (omega (arith, k.0));
       seals = λ k e. absurd (omega (arith, e));
     } in
-    let stamp : (k : ℕ) → legal.stamp_in shape t k ≡ legal.stamp_in shape s k =
-    λ k. ap (λ z. (vertex_of z).stamp) (get_or-set_other s.words 0 (first_vertex shape + k) value 0 (λ e. omega (arith, e))) in
-    stored-aside seen plain (event 0 value) tied may (λ w low high e. omega (arith, e, low)) t
-    (ap
-    (λ z.
-    record
-    { words = set s.words 0 value; list = s.list; note = z; entries = entered z s.entries; unsealed = unsealed_from z s.unsealed })
-    is)
-    refl refl
+    let stamp : (k : ℕ) → legal.stamp_in shape t k ≡ legal.stamp_in shape s k = λ k. stamp-kept shape s.words value k in
+    stored-aside seen plain (event 0 value) tied may (λ w low high e. omega (arith, e, low)) t (after_store-noted shape s value n is) refl refl
     (λ k l.
     omega (
       arith,
       stamp k,
       (legal-holds shape seen.table.opening seen.log tied.legal).stamps k l,
-      length-append s.entries (record { index = index; add = add; u = u; v = v } ∷ []),
+      length-append s.entries (entry ∷ []),
     ))
     (λ w. tt)
 
@@ -165,41 +188,59 @@ sealed_at seen plain v value tied below fits seals =
     stored-aside seen plain e tied may (λ k low high h. omega (arith, h, high)) t (after-item shape s e (omega arith))
     (store-quiet s.note w s.list tied.quiet) refl stamps (λ k. tt)
 
--- what an Enter note leaves beside the list
-pub enter-leaves : (seen : Seen) (add : Bool) (index u v : ℕ) → IsFitting (Enter add index u v)
-    → let entry : Entry = record { index = index; add = add; u = u; v = v } in
-    LeavesBeside (record { table = seen.table; log = seen.log ++ event 0 (note_word (Enter add index u v)) ∷ [] }) (entries_after seen ++ entry ∷ []) []
-    (vertex_word_after seen)
-enter-leaves seen add index u v fitting =
-    let shape = seen.table.shape in
-    let n = Enter add index u v in
-    let value = note_word n in
-    let e = event 0 value in
-    let s = state_of shape seen.table.opening seen.log in
-    let note : note_of value ≡ n = note_of-note_word n fitting in
-    let t : TableState = record {
-      words = set s.words 0 value;
-      list = s.list;
-      note = n;
-      entries = s.entries ++ record { index = index; add = add; u = u; v = v } ∷ [];
-      unsealed = [];
-    } in
-    let at : state_of shape seen.table.opening (seen.log ++ e ∷ []) ≡ t = state_of-push shape seen.table.opening seen.log e ∙ ap (λ z. noted-as s value z)
-    note in
-    let made = leaves-state seen.table (seen.log ++ e ∷ []) t at (λ word. tt) in
-    record {
-      entries_are = made.entries_are;
-      unsealed_are = made.unsealed_are;
-      words_are = λ k. value_at-other seen.table.opening seen.log e (first_vertex shape + k) (λ q. omega (arith, q));
-      quiet = made.quiet;
-    }
-  where
-    noted-as : TableState → ℕ → NoteWord → TableState
-    noted-as s value z = record { words = set s.words 0 value; list = s.list; note = z; entries = entered z s.entries; unsealed = unsealed_from z s.unsealed }
+-- what was seen, with both stores of an entry
+abbrev pub with_both : Seen → ℕ → ℕ → Seen
+with_both seen index note = with_store (with_store seen 0 index) 0 note
 
--- what has been seen, with one store more
-abbrev pub with_store : Seen → ℕ → ℕ → Seen
-with_store seen word value = record { table = seen.table; log = seen.log ++ event word value ∷ [] }
+-- what the two stores of an entry leave: legal logs, the plain list tied, and the entry behind those before
+pub record EntryStored (seen : Seen) (plain : Plain) (index note : ℕ) (entry : Entry) : Type 0 where
+  pub indexed : legal.Legal seen.table.shape seen.table.opening (seen.log ++ event 0 index ∷ [])
+  pub noted : legal.Legal seen.table.shape seen.table.opening ((seen.log ++ event 0 index ∷ []) ++ event 0 note ∷ [])
+  pub tied : (now : Seen) → now ≡ with_both seen index note → Tied now plain
+  pub leaves : LeavesBeside (with_both seen index note) (entries_after seen ++ entry ∷ []) [] (vertex_word_after seen)
+
+-- an entry whose numbers fit may be stored where no vertex is left to seal
+pub entry-stored : (seen : Seen) (plain : Plain) (index : ℕ) (add : Bool) (u v : ℕ) → Tied seen plain → index < 2 ^ INDEX_BITS → IsFitting (Enter add u v)
+    → (state_of seen.table.shape seen.table.opening seen.log).unsealed ≡ []
+    → EntryStored seen plain index (note_word (Enter add u v)) (record { index = index; add = add; u = u; v = v })
+entry-stored seen plain index add u v tied small fitting closed =
+    let shape = seen.table.shape in
+    let opening = seen.table.opening in
+    let value = note_word (Enter add u v) in
+    let between : Seen = with_store seen 0 index in
+    let first = indexed_at seen plain index tied small in
+    let none : (state_of shape opening between.log).unsealed ≡ [] =
+    ap (λ (z : TableState). z.unsealed) (state_of-index shape opening seen.log index small) ∙ closed in
+    let second = entered_at between plain add u v (first.1 between refl) fitting none in
+    let made = leaves-state seen.table (between.log ++ event 0 value ∷ []) (with_entry (state_of shape opening seen.log) index add u v)
+    (state_of-entry shape opening seen.log index add u v tied.legal small fitting) (λ word. tt) in
+    record {
+      indexed = first.0;
+      noted = second.0;
+      tied = second.1;
+      leaves = record {
+        entries_are = made.entries_are;
+        unsealed_are = made.unsealed_are;
+        words_are = λ k. value_at-other opening between.log (event 0 value) (first_vertex shape + k) (λ q. omega (arith, q))
+            ∙ value_at-other opening seen.log (event 0 index) (first_vertex shape + k) (λ q. omega (arith, q));
+        quiet = made.quiet;
+      };
+    }
+
+-- the two stores of an entry, as the calls tell of them
+pub both-stored : (seen between new : Seen) (first index second note : ℕ) → between ≡ with_store seen 0 first → first ≡ index
+    → new ≡ with_store between 0 second → second ≡ note → new ≡ with_both seen index note
+both-stored seen between new first index second note between-is first-is new-is second-is =
+    new-is ∙ (λ i. with_store ((between-is ∙ ap (λ (k : ℕ). with_store seen 0 k) first-is) i) 0 (second-is i))
+
+-- what both stores leave, in the words of the contracts
+pub stores-entry : (seen now new : Seen) (plain : Plain) (index note : ℕ) (entry : Entry) → seen ≡ now → EntryStored seen plain index note entry
+    → new ≡ with_both seen index note
+    → StoresEntry now new index note × LeavesBeside new (entries_after now ++ entry ∷ []) [] (vertex_word_after now)
+stores-entry seen now new plain index note entry is h new-is =
+    subst (λ (z : Seen × Seen). StoresEntry z.0 z.1 index note × LeavesBeside z.1 (entries_after z.0 ++ entry ∷ []) [] (vertex_word_after z.0))
+    (λ i. (is i, sym new-is i))
+    (record { indexed = record { is = refl; legal = h.indexed }; noted = record { is = refl; legal = h.noted } }, h.leaves)
 
 -- what a vertex word leaves beside the list
 pub vertex-leaves : (seen : Seen) (plain : Plain) (v value : ℕ) → Tied seen plain → v < seen.table.shape.fixed

@@ -189,7 +189,8 @@ pub call-writes : (seen : Seen) (old new : Plain) (n : NoteWord) (x : ℕ) (writ
     → new.items ≡ old.items → new.fixed ≡ old.fixed
     → Written old.items old.list new.list x old.words new.words new.writes → ((w : ℕ) → sheet.version new.words w ≤ LAST_VERSION)
     → x < seen.table.shape.items → ((y : ℕ) → member y new.list ≡ true → y < seen.table.shape.items)
-    → MayAfter seen.table.shape (state_of seen.table.shape seen.table.opening seen.log) n → ((entries : List Entry) → entered n entries ≡ entries)
+    → MayAfter seen.table.shape (state_of seen.table.shape seen.table.opening seen.log) n
+    → ((index : ℕ) (entries : List Entry) → entered index n entries ≡ entries)
     → legal.FollowsNote n (1 + x) → moved n (1 + x) old.list ≡ new.list → note_word n < 2 ^ 64
     → Wrote seen new (note_word n) x writes
 call-writes seen old new n x writes tied fitting same items fixed w few x-in within may no-entry follows after fits =
@@ -353,7 +354,7 @@ writer-puts seen old new x p writes tied left x-in p-in differ section same item
     let moves : moved (Put x p) (1 + x) old.list ≡ new.list =
     ap (λ b. cond b (right_after x p (without x old.list)) old.list) (eq-eqb (1 + x) (1 + x) refl) ∙ sym list in
     call-writes seen old new (Put x p) x writes tied (omega (arith, x-in, shape.few_items), omega (arith, p-below, shape.few_items)) same items
-    fixed w (new-versions seen old new tied left highest) x-in within may (λ _. refl) refl moves (omega (arith, x-in, p-below, shape.few_items))
+    fixed w (new-versions seen old new tied left highest) x-in within may (λ _ _. refl) refl moves (omega (arith, x-in, p-below, shape.few_items))
 
 -- a take, as the writer makes it
 pub writer-takes : (seen : Seen) (old new : Plain) (x : ℕ) (writes : List Write) → Tied seen old → HasVersionsLeft seen.table seen.log
@@ -372,7 +373,7 @@ writer-takes seen old new x writes tied left x-in free same items fixed list w h
     let may : MayAfter shape s (Take x) = λ t t-list t-entries t-stamp. (ap (member x) t-list ∙ x-in, free) in
     let moves : moved (Take x) (1 + x) old.list ≡ new.list = ap (λ b. cond b (without x old.list) old.list) (eq-eqb (1 + x) (1 + x) refl) ∙ sym list in
     call-writes seen old new (Take x) x writes tied (omega (arith, x-below, shape.few_items)) same items fixed w
-    (new-versions seen old new tied left (omega (arith, highest))) x-below within may (λ _. refl) refl moves (omega (arith, x-below, shape.few_items))
+    (new-versions seen old new tied left (omega (arith, highest))) x-below within may (λ _ _. refl) refl moves (omega (arith, x-below, shape.few_items))
 
 -- a put, as the writer makes it, where its seat is seen as `now`, of the table `words`
 pub put-at : (seen now : Seen) (words : TableName) (old new : Plain) (x p : ℕ) (writes : List Write) → seen ≡ now → now.table ≡ words

@@ -131,10 +131,19 @@ pub record Tied (seen : Seen) (plain : Plain) : Type 0 where
   pub note : (item_of (slice_index plain.words 0)).version ≡ 0
   pub quiet : (word : ℕ) → FollowsNote (state_of seen.table.shape seen.table.opening seen.log).note word
 
+-- what was seen, with one store more
+abbrev pub with_store : Seen → ℕ → ℕ → Seen
+with_store seen word value = record { table = seen.table; log = seen.log ++ event word value ∷ [] }
+
 -- the log grows by one store
 pub record Stores (old new : Seen) (word value : ℕ) : Type 0 where
   pub is : new ≡ record { table = old.table; log = old.log ++ event word value ∷ [] }
   pub legal : Legal new.table.shape new.table.opening new.log
+
+-- the log grows by an entry: its index is stored to the word of the note, and then its note
+pub record StoresEntry (old new : Seen) (index note : ℕ) : Type 0 where
+  pub indexed : Stores old (with_store old 0 index) 0 index
+  pub noted : Stores (with_store old 0 index) new 0 note
 
 -- no note, the words of the items and groups, and those of the vertices
 pub record AreOpeningWords (words opening vertex : List ℕ) (items : ℕ) : Type 0 where

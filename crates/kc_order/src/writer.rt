@@ -13,7 +13,7 @@ ghost use Rattle.kc_table.specs.Legal.{Legal, MayPut, Seals};
 ghost use Rattle.kc_table.specs.TableState.{first_vertex, state_of};
 ghost use Rattle.kc_order.specs.Standing.{StandsBefore, list_after};
 ghost use Rattle.kc_order.specs.Runs.{IsRunBefore, MovesRun};
-ghost use Rattle.kc_order.specs.Writers.{AreOpeningWords, HasRoom, HasVersionsLeft, IsHighest, LeavesBeside, Puts, Stores, Takes};
+ghost use Rattle.kc_order.specs.Writers.{AreOpeningWords, HasRoom, HasVersionsLeft, IsHighest, LeavesBeside, Puts, Stores, StoresEntry, Takes};
 ghost use Rattle.kc_order.specs.Writers.{entries_after, unsealed_after, vertex_word_after};
 
 use crate::NoMemory;
@@ -117,23 +117,23 @@ impl Writer {
         store_writes(words, seat, plain.writes(), NoteWord::Take { x });
     }
 
-    /// Enters an update: the note that opens its section. Nothing is left open in the section before.
+    /// Enters an update: its index, and then the note that opens its section. Nothing is left open in the section before.
     pub fn note_enter(&mut self, words: &Words, index: u32, update: Update)
         requires table { self.old.table ≡ words.now }
         requires index { index < INDICES }
         requires ends { (update.u < words.now.shape.items) × (update.v < words.now.shape.items) }
         requires fits { (update.u < VERTICES) × (update.v < VERTICES) }
         requires closed { (state_of self.old.table.shape self.old.table.opening self.old.log).unsealed ≡ [] }
-        ensures stored { Stores self.old self.new 0 (note_word (Enter update.add index update.u update.v)) }
+        ensures stored { StoresEntry self.old self.new index (note_word (Enter update.add update.u update.v)) }
         ensures leaves { LeavesBeside self.new (entries_after self.old ++ record { index = index; add = update.add; u = update.u; v = update.v } ∷ []) []
             (vertex_word_after self.old) }
     {
         let note = NoteWord::Enter {
             add: update.add,
-            index,
             u: update.u,
             v: update.v,
         };
+        store(words, &mut self.seat, 0, u64::from(index));
         store(words, &mut self.seat, 0, note.pack());
     }
 

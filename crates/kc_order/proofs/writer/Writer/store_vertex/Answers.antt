@@ -6,8 +6,8 @@ use Rattle.kc_words.specs.declared.shape.Shape.{Shape}
 use Rattle.kc_table.specs.Legal as legal
 use Rattle.kc_table.specs.Log.{Seen, TableName, event}
 use Rattle.kc_table.specs.TableState.{state_of, first_vertex}
-use Rattle.kc_order.specs.Writers.{Stores, Tied, entries_after, unsealed_after, vertex_word_after}
-use Rattle.kc_order.proofs.Sections.{fits-vertex, leaves-now, sealed_at, stores-now, vertex-leaves, with_store}
+use Rattle.kc_order.specs.Writers.{Stores, Tied, entries_after, unsealed_after, vertex_word_after, with_store}
+use Rattle.kc_order.proofs.Sections.{fits-vertex, leaves-now, sealed_at, stores-now, vertex-leaves}
 use Rattle.kc_order.proofs.writer.Writer.store_vertex.Goals.{After-pack}
 use Rattle.kc_order.proofs.writer.Writer.store_vertex.Goals as goal
 
