@@ -14,11 +14,12 @@ use Rattle.kc_table.specs.declared.entry.Entry.{Entry}
 use Rattle.kc_table.specs.declared.view.Event.{Event}
 use Rattle.kc_table.specs.Log.{Seen, TableName, event}
 use Rattle.kc_table.specs.TableState.{TableState}
+use Rattle.kc_table.proofs.Entries.{state_of-index}
 use Rattle.kc_table.proofs.LegalLogs.{state_of-push}
 use Rattle.kc_table.proofs.Prefixes.{prefix_either, prefix_self}
 use Rattle.kc_order.specs.Runs.{MovesRun, with_run_after}
 use Rattle.kc_order.specs.Standing.{Between, StandsBefore, list_after}
-use Rattle.kc_order.specs.Writers.{HasRoom, IsHighest, LeavesBeside, Stores, entries_after, vertex_word_after}
+use Rattle.kc_order.specs.Writers.{HasRoom, IsHighest, LeavesBeside, StoresEntry, entries_after, vertex_word_after}
 use Rattle.kc_order.proofs.Orders.{same_test}
 use Rattle.kc_order.proofs.RunMoves.{list-distinct, turn-distinct}
 use Rattle.kc_topo.specs.Arcs.{IsTopological, Reaches, StandOnce, arc_of, arcs_after, entry_of, has_arc, note_of_arc}
@@ -73,7 +74,7 @@ rows-push rows arcs a b low are x y = elim (cases_eq x a) [
 module _ (old moved new : Seen) (rows : List (List ℕ)) (run : List ℕ) (a b : ℕ) (k : KeepsRows old rows)
     (low : (a < old.table.shape.items) × (b < old.table.shape.items)) (fresh : has_arc (arcs_after old.table old.log) a b ≡ false)
     (acyclic : Reaches (arcs_after old.table old.log) b a → ⊥) (is : IsRunFor old a b run) (moves : MovesRun old moved run a)
-    (stores : Stores moved new 0 (note_word (note_of_arc a b)))
+    (stores : StoresEntry moved new 0 (note_word (note_of_arc a b)))
     (leaves : LeavesBeside new (entries_after moved ++ entry_of a b ∷ []) [] (vertex_word_after moved)) where
   -- the arcs before
   abbrev arcs : List (ℕ × ℕ)
@@ -83,9 +84,13 @@ module _ (old moved new : Seen) (rows : List (List ℕ)) (run : List ℕ) (a b :
   abbrev after : List ℕ
   after = with_run_after run a (list_after old.table old.log)
 
-  -- the word that is stored
+  -- the word that is stored last
   abbrev value : ℕ
   value = note_word (note_of_arc a b)
+
+  -- the log once the run has moved and the index of the entry is stored
+  abbrev indexed : List Event
+  indexed = moved.log ++ event 0 0 ∷ []
 
   -- arcs and list are a dag before
   begun : IsDag old.table old.log
@@ -93,7 +98,7 @@ module _ (old moved new : Seen) (rows : List (List ℕ)) (run : List ℕ) (a b :
 
   -- the table stays
   to : new.table ≡ old.table
-  to = ap (λ (s : Seen). s.table) stores.is ∙ moves.table
+  to = ap (λ (s : Seen). s.table) stores.noted.is ∙ moves.table
 
   -- there is one entry more
   entries : entries_after new ≡ entries_after old ++ entry_of a b ∷ []
@@ -105,8 +110,9 @@ module _ (old moved new : Seen) (rows : List (List ℕ)) (run : List ℕ) (a b :
 
   -- the list is the one that was made
   list-new : list_after new.table new.log ≡ after
-  list-new = ap (λ (s : Seen). list_after s.table s.log) stores.is
-      ∙ (ap (λ (z : TableState). z.list) (state_of-push moved.table.shape moved.table.opening moved.log (event 0 value)) ∙ moves.list)
+  list-new = ap (λ (s : Seen). list_after s.table s.log) stores.noted.is
+      ∙ (ap (λ (z : TableState). z.list) (state_of-push moved.table.shape moved.table.opening indexed (event 0 value))
+      ∙ (ap (λ (z : TableState). z.list) (state_of-push moved.table.shape moved.table.opening moved.log (event 0 0)) ∙ moves.list))
 
   -- the list is topological for the arcs before
   still : IsTopological arcs after
@@ -134,6 +140,19 @@ module _ (old moved new : Seen) (rows : List (List ℕ)) (run : List ℕ) (a b :
             ];
       }
 
+  -- and once the index is stored, which changes neither arcs nor list
+  once-indexed : IsDag old.table indexed
+  once-indexed =
+      let whole = while-moving moved.log record { extends = moves.longer; extended = prefix_self moved.log } in
+      let state = state_of-index old.table.shape old.table.opening moved.log 0 (omega arith) in
+      let list : list_after old.table indexed ≡ list_after old.table moved.log = ap (λ (z : TableState). z.list) state in
+      let same : arcs_after old.table indexed ≡ arcs_after old.table moved.log = ap (λ (z : TableState). map arc_of z.entries) state in
+      record {
+        vertices = λ v l. ap (member v) list ∙ whole.vertices v l;
+        once = subst StandOnce (sym same) whole.once;
+        topological = λ x y arc. subst (StandsBefore x y) (sym list) (whole.topological x y (ap (λ zs. has_arc zs x y) (sym same) ∙ arc));
+      }
+
   -- and at the end
   ended : IsDag new.table new.log
   ended =
@@ -151,11 +170,14 @@ module _ (old moved new : Seen) (rows : List (List ℕ)) (run : List ℕ) (a b :
   -- all is sound along the whole log
   along : IsDagAlong new.table new.log
   along prefix p =
-      let grown : new.log ≡ moved.log ++ event 0 value ∷ [] = ap (λ (s : Seen). s.log) stores.is in
-      elim (prefix-last moved.log prefix (event 0 value) (subst (IsPrefix prefix) grown p)) [
-        | inl moving ↦ subst (λ (t : TableName). IsDag t prefix) (sym to) (elim (prefix_either prefix old.log moved.log moving moves.longer) [
-          | inl before ↦ k.dag prefix before
-          | inr after-old ↦ while-moving prefix record { extends = after-old; extended = moving }
+      let grown : new.log ≡ indexed ++ event 0 value ∷ [] = ap (λ (s : Seen). s.log) stores.noted.is in
+      elim (prefix-last indexed prefix (event 0 value) (subst (IsPrefix prefix) grown p)) [
+        | inl early ↦ subst (λ (t : TableName). IsDag t prefix) (sym to) (elim (prefix-last moved.log prefix (event 0 0) early) [
+          | inl moving ↦ elim (prefix_either prefix old.log moved.log moving moves.longer) [
+            | inl before ↦ k.dag prefix before
+            | inr after-old ↦ while-moving prefix record { extends = after-old; extended = moving }
+          ]
+          | inr at-index ↦ subst (IsDag old.table) (sym at-index) once-indexed
         ])
         | inr whole ↦ subst (IsDag new.table) (grown ∙ sym whole) ended
       ]
@@ -180,7 +202,7 @@ module _ (old moved new : Seen) (rows : List (List ℕ)) (run : List ℕ) (a b :
   pub keeps-on : KeepsRows new (set rows a (row rows a ++ b ∷ []))
   keeps-on = record {
     dag = along;
-    legal = stores.legal;
+    legal = stores.noted.legal;
     free = ap (λ (t : TableName). t.shape.fixed) to ∙ k.free;
     few = subst (λ (t : TableName). t.shape.items ≤ VERTICES) (sym to) k.few;
     closed = leaves.unsealed_are;
@@ -192,7 +214,7 @@ module _ (old moved new : Seen) (rows : List (List ℕ)) (run : List ℕ) (a b :
 pub entered-now : (old now moved new : Seen) (rows more : List (List ℕ)) (run : List ℕ) (a b : ℕ) (note : NoteWord) (entry : Entry) → old ≡ now
     → KeepsRows old rows → (a < now.table.shape.items) × (b < now.table.shape.items) → has_arc (arcs_after now.table now.log) a b ≡ false
     → (Reaches (arcs_after now.table now.log) b a → ⊥) → IsRunFor now a b run → HasRoom now.table now.log (3 * length run) → MovesRun old moved run a
-    → note_of_arc a b ≡ note → Stores moved new 0 (note_word note) → entry_of a b ≡ entry
+    → note_of_arc a b ≡ note → StoresEntry moved new 0 (note_word note) → entry_of a b ≡ entry
     → LeavesBeside new (entries_after moved ++ entry ∷ []) [] (vertex_word_after moved) → more ≡ set rows a (row rows a ++ b ∷ [])
     → AddsArc now new a b × KeepsRows new more
 entered-now old now moved new rows more run a b note entry same k low fresh acyclic is room moves note-is stores entry-is leaves more-is =
@@ -202,7 +224,7 @@ entered-now old now moved new rows more run a b note entry same k low fresh acyc
     let acyclic' = subst (λ (s : Seen). Reaches (arcs_after s.table s.log) b a → ⊥) back acyclic in
     let is' = subst (λ (s : Seen). IsRunFor s a b run) back is in
     let room' = subst (λ (s : Seen). HasRoom s.table s.log (3 * length run)) back room in
-    let stores' = subst (λ (n : NoteWord). Stores moved new 0 (note_word n)) (sym note-is) stores in
+    let stores' = subst (λ (n : NoteWord). StoresEntry moved new 0 (note_word n)) (sym note-is) stores in
     let leaves' = subst (λ (e : Entry). LeavesBeside new (entries_after moved ++ e ∷ []) [] (vertex_word_after moved)) (sym entry-is) leaves in (
       subst (λ (s : Seen). AddsArc s new a b) same (adds-arc old moved new rows run a b k low' fresh' acyclic' is' moves stores' leaves' room'),
       subst (KeepsRows new) (sym more-is) (keeps-on old moved new rows run a b k low' fresh' acyclic' is' moves stores' leaves'),

@@ -18,7 +18,7 @@ entry_of a b = if nat_lt a b then record { index = 0; add = true; u = a; v = b }
 
 -- the note by which it is entered
 abbrev pub note_of_arc : ℕ → ℕ → NoteWord
-note_of_arc a b = if nat_lt a b then Enter true 0 a b else Enter false 0 b a
+note_of_arc a b = if nat_lt a b then Enter true a b else Enter false b a
 
 -- the arcs that a log has entered, oldest first
 abbrev pub arcs_after : TableName → List Event → List (ℕ × ℕ)

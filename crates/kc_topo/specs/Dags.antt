@@ -10,7 +10,7 @@ use Rattle.kc_table.specs.Legal.{Legal}
 use Rattle.kc_table.specs.Log.{PassSeen, Seen, TableName}
 use Rattle.kc_order.specs.Runs.{InListOrder, MovesRun, with_run_after}
 use Rattle.kc_order.specs.Standing.{Between, StandsBefore, list_after}
-use Rattle.kc_order.specs.Writers.{HasRoom, IsHighest, Stores, entries_after, unsealed_after}
+use Rattle.kc_order.specs.Writers.{HasRoom, IsHighest, StoresEntry, entries_after, unsealed_after}
 use Rattle.kc_order.specs.declared.answer.Answer.{Answer}
 use Rattle.kc_order.specs.declared.answer.Answer.TheVariants as answer
 use Rattle.kc_topo.specs.declared.added.Added.{Added}
@@ -34,7 +34,7 @@ pub record IsRunFor (seen : Seen) (a b : ℕ) (run : List ℕ) : Type 0 where
   pub turn : InListOrder run (list_after seen.table seen.log)
   pub members : (v : ℕ) → (member v run ≡ true) ↔ (Reaches (arcs_after seen.table seen.log) b v × StandsBefore v a (list_after seen.table seen.log))
 
--- The arc from a to b was added: the run for it has moved to right after a, and then the arc was entered by the last store.
+-- The arc from a to b was added: the run for it has moved to right after a, and then the arc was entered by the last two stores.
 pub record AddsArc (old new : Seen) (a b : ℕ) : Type 0 where
   pub fresh : has_arc (arcs_after old.table old.log) a b ≡ false
   pub acyclic : Reaches (arcs_after old.table old.log) b a → ⊥
@@ -43,7 +43,7 @@ pub record AddsArc (old new : Seen) (a b : ℕ) : Type 0 where
   pub room : HasRoom old.table old.log (3 * length run)
   pub moved : Seen
   pub moves : MovesRun old moved run a
-  pub stores : Stores moved new 0 (note_word (note_of_arc a b))
+  pub stores : StoresEntry moved new 0 (note_word (note_of_arc a b))
   pub entries : entries_after new ≡ entries_after old ++ entry_of a b ∷ []
   pub arcs : arcs_after new.table new.log ≡ arcs_after old.table old.log ++ (a, b) ∷ []
   pub list : list_after new.table new.log ≡ with_run_after run a (list_after old.table old.log)

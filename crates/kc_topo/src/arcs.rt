@@ -83,7 +83,7 @@ impl Arcs {
     }
 
     /// Adds the arc from `a` to `b`. Where `b` stands before `a`, those vertices that walks reach from `b` and that stand before `a` move
-    /// first, to right after `a` in their order; then the arc is entered by the last store. Whatever is answered, the pass has then seen
+    /// first, to right after `a` in their order; then the arc is entered by the last two stores. Whatever is answered, the pass has then seen
     /// the whole log. It begins anew with no load and no split.
     ///
     /// `There` where the arc stands already: nothing changes. Else `Cycle` where a walk leads from `b` to `a`, also where they are one, and
@@ -193,7 +193,7 @@ impl Arcs {
 /// The update by which the arc from `a` to `b` is entered: the lesser end first, and added where the arc leads to the greater.
 fn update_of(a: u32, b: u32) -> Update
     requires { a ≢ b }
-    ensures note { note_of_arc a b ≡ Enter result.add 0 result.u result.v }
+    ensures note { note_of_arc a b ≡ Enter result.add result.u result.v }
     ensures entry { entry_of a b ≡ record { index = 0; add = result.add; u = result.u; v = result.v } }
 {
     if a < b {

@@ -21,7 +21,8 @@ invariant_of-self-2 c =
     c.note_enter.ensures.leaves c.in_ok-push.ensures.ok in (
       done.1,
       c.self.invariant.1 ∙ ap (λ (k : ℕ). let t : Trail = record { vertices = []; parents = []; size = k } in t)
-          (sym (ap (λ (s : Seen). s.table.shape.items) c.note_enter.ensures.stored.is ∙ ap (λ (t : TableName). t.shape.items) c.move_after.ensures.table)),
+          (sym (ap (λ (s : Seen). s.table.shape.items) c.note_enter.ensures.stored.noted.is
+          ∙ ap (λ (t : TableName). t.shape.items) c.move_after.ensures.table)),
     )
 
 pub returns-clause-ok : goal.returns-clause-ok
