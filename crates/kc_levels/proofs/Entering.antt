@@ -5,21 +5,20 @@ use Rattle.std.proofs.lemmas.Bool.{false≢true}
 use Rattle.std.proofs.lemmas.List.{get_or-set_other}
 use Rattle.kc_lists.specs.Lists.{member}
 use Rattle.kc_words.specs.VertexWord.{vertex_of}
-use Rattle.kc_words.specs.NoteWord.{note_of, note_word}
-use Rattle.kc_words.proofs.Notes.{note_of-note_word}
+use Rattle.kc_words.specs.NoteWord.{IsFitting, note_word}
 use Rattle.kc_words.specs.declared.layout.TheConstants.{INDICES}
-use Rattle.kc_words.specs.declared.note.NoteWord.{NoteWord}
 use Rattle.kc_words.specs.declared.note.NoteWord.TheVariants.{Enter}
 use Rattle.kc_graph.specs.Certificate.{Enumerates}
 use Rattle.kc_graph.specs.declared.update.Update.{Update}
 use Rattle.kc_table.specs.declared.view.Event.{Event}
 use Rattle.kc_table.specs.declared.entry.Entry.{Entry}
 use Rattle.kc_table.specs.Log.{Seen, event}
-use Rattle.kc_table.specs.TableState.{TableState, state_of, first_vertex, entered, unsealed_from}
+use Rattle.kc_table.specs.TableState.{TableState, state_of, first_vertex}
 use Rattle.kc_table.specs.Legal as legal
-use Rattle.kc_table.proofs.LegalLogs.{state_of-push, legal-holds}
+use Rattle.kc_table.proofs.Entries.{state_of-entry, with_entry}
+use Rattle.kc_table.proofs.LegalLogs.{legal-holds}
 use Rattle.kc_order.specs.Standing.{list_after}
-use Rattle.kc_order.specs.Writers.{Stores}
+use Rattle.kc_order.specs.Writers.{StoresEntry}
 use Rattle.kc_levels.specs.declared.levels.TheConstants.{LAST_NUMBER}
 use Rattle.kc_levels.specs.Heads.{vertices_of, with_heads}
 use Rattle.kc_levels.specs.Levels.{Levelled, levelled, AreLevels, Rises, Tallied, OpensSection, size_of, state_in, number_of, word_at, unsealed_in}
@@ -28,7 +27,7 @@ use Rattle.kc_levels.specs.Levels.{Levelled, levelled, AreLevels, Rises, Tallied
 enter-at : (s : Seen) (log : List Event) (core stamps : List ℕ) (number size index : ℕ) (update : Update)
     → Tallied (levelled s core false) stamps number size → index < INDICES → update.u < s.table.shape.fixed → update.v < s.table.shape.fixed
     → number < LAST_NUMBER
-    → Stores s (record { table = s.table; log = log }) 0 (note_word (Enter update.add index update.u update.v))
+    → StoresEntry s (record { table = s.table; log = log }) index (note_word (Enter update.add update.u update.v))
     → Tallied (levelled (record { table = s.table; log = log }) core true) stamps (number + 1) size
     × OpensSection (levelled s core false) (levelled (record { table = s.table; log = log }) core true) index update
 enter-at s log core stamps number size index update h fits u-in v-in most stores =
@@ -38,39 +37,26 @@ enter-at s log core stamps number size index update h fits u-in v-in most stores
     let now : Seen = record { table = s.table; log = log } in
     let are = h.are in
     let before : TableState = state_in old in
-    let note : NoteWord = Enter update.add index update.u update.v in
-    let value : ℕ = note_word note in
+    let value : ℕ = note_word (Enter update.add update.u update.v) in
     let entry : Entry = record { index = index; add = update.add; u = update.u; v = update.v } in
-    let is : note_of value ≡ note = note_of-note_word note (fits, omega (arith, u-in, are.few), omega (arith, v-in, are.few)) in
-    let after : TableState = record {
-      words = set before.words 0 value;
-      list = before.list;
-      note = note;
-      entries = before.entries ++ entry ∷ [];
-      unsealed =
-          [];
-    } in
-    let grown : log ≡ s.log ++ event 0 value ∷ [] = ap (λ (z : Seen). z.log) stores.is in
+    let fitting : IsFitting (Enter update.add update.u update.v) = (omega (arith, u-in, are.few), omega (arith, v-in, are.few)) in
+    let first : List ℕ = set before.words 0 index in
+    let grown : log ≡ (s.log ++ event 0 index ∷ []) ++ event 0 value ∷ [] = ap (λ (z : Seen). z.log) stores.noted.is in
     let t : TableState = state_of shape s.table.opening log in
-    let at : t ≡ after =
-    ap (state_of shape s.table.opening) grown ∙ (state_of-push shape s.table.opening s.log (event 0 value)
-    ∙ ap (λ (z : NoteWord). record {
-      words = set before.words 0 value;
-      list = before.list;
-      note = z;
-      entries = entered z before.entries;
-      unsealed = unsealed_from z before.unsealed;
-    }) is) in
+    let at : t ≡ with_entry before index update.add update.u update.v =
+    ap (state_of shape s.table.opening) grown
+    ∙ state_of-entry shape s.table.opening s.log index update.add update.u update.v are.legal (omega (arith, fits)) fitting in
     let none : unsealed_in old ≡ [] = are.closed refl in
     let now-none : t.unsealed ≡ [] = ap (λ (z : TableState). z.unsealed) at in
     let entries : t.entries ≡ before.entries ++ entry ∷ [] = ap (λ (z : TableState). z.entries) at in
     let order-is : vertices_of n (list_after s.table log) ≡ vertices_of n (list_after s.table s.log) = ap (λ (z : TableState). vertices_of n z.list) at in
     let words : (w : ℕ) → get_or t.words (first_vertex shape + w) 0 ≡ word_at old w =
     λ w. ap (λ (z : TableState). get_or z.words (first_vertex shape + w) 0) at
-    ∙ get_or-set_other before.words 0 (first_vertex shape + w) value 0 (λ q. omega (arith, q)) in
+    ∙ (get_or-set_other first 0 (first_vertex shape + w) value 0 (λ q. omega (arith, q))
+    ∙ get_or-set_other before.words 0 (first_vertex shape + w) index 0 (λ q. omega (arith, q))) in
     let many : length t.entries ≡ length before.entries + 1 = ap length entries ∙ length-append before.entries (entry ∷ []) in
     let are-now : AreLevels (levelled now core true) = record {
-      legal = stores.legal;
+      legal = stores.noted.legal;
       items = are.items;
       few = are.few;
       list = ap (λ (z : TableState). z.list) at ∙ (are.list ∙ ap (λ (xs : List ℕ). with_heads n xs core) (sym order-is));
@@ -114,16 +100,16 @@ enter-at s log core stamps number size index update h fits u-in v-in most stores
 pub enter-leaves : (old : Levelled) (s now : Seen) (core stamps : List ℕ) (open_ : Bool) (number size index : ℕ) (update : Update)
     → levelled s core open_ ≡ old → Tallied (levelled s core open_) stamps number size → old.open_ ≡ false
     → index < INDICES → (update.u < size_of old) × (update.v < size_of old) → number_of old < LAST_NUMBER
-    → Stores s now 0 (note_word (Enter update.add index update.u update.v))
+    → StoresEntry s now index (note_word (Enter update.add update.u update.v))
     → Tallied (levelled now core true) stamps (number + 1) size × OpensSection old (levelled now core true) index update
 enter-leaves old s now core stamps open_ number size index update is h closed fits ends most stores =
     let o : open_ ≡ false = ap (λ (z : Levelled). z.open_) is ∙ closed in
-    let same : now ≡ record { table = s.table; log = now.log } = λ i. record { table = ap (λ (z : Seen). z.table) stores.is i; log = now.log } in
+    let same : now ≡ record { table = s.table; log = now.log } = λ i. record { table = ap (λ (z : Seen). z.table) stores.noted.is i; log = now.log } in
     let fixed : size_of old ≡ s.table.shape.fixed = sym (ap size_of is) in
     let h' : Tallied (levelled s core false) stamps number size = subst (λ (b : Bool). Tallied (levelled s core b) stamps number size) o h in
     let done = enter-at s now.log core stamps number size index update h' fits (omega (arith, ends.0, fixed)) (omega (arith, ends.1, fixed))
     (omega (arith, most, h.number_is, ap number_of is))
-    (subst (λ (z : Seen). Stores s z 0 (note_word (Enter update.add index update.u update.v))) same stores) in
+    (subst (λ (z : Seen). StoresEntry s z index (note_word (Enter update.add update.u update.v))) same stores) in
     let at : levelled s core false ≡ old = ap (λ (b : Bool). levelled s core b) (sym o) ∙ is in
     subst (λ (z : Levelled). Tallied (levelled now core true) stamps (number + 1) size × OpensSection z (levelled now core true) index update) at
     (subst (λ (z : Seen). Tallied (levelled z core true) stamps (number + 1) size

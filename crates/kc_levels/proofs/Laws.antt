@@ -129,7 +129,7 @@ pub may-make-opened : (s : Ranked) (plan : Plan) (old new : Levelled) (index mos
     → AreLevelsOf s old → OpensSection old new index plan.update → IsHighest new.table new.log highest
     → most ≡ length (moved_vertices plan.moves) → highest + 3 * most ≤ LAST_VERSION → MayMake new plan.moves
 may-make-opened s plan old new index most highest local certified of opens greatest count room =
-    let size : size_of new ≡ size_of old = ap (λ (z : Seen). z.table.shape.fixed) opens.stores.is in
+    let size : size_of new ≡ size_of old = ap (λ (z : Seen). z.table.shape.fixed) opens.stores.noted.is in
     may-make-fitting s plan new local.moves_fit certified
     record { size = size ∙ of.size; order = opens.order_is ∙ of.order; core = opens.core_is ∙ of.core }
     record { are = opens.are; open_ = opens.open_is; unmoved = opens.unsealed; may_move = λ v l. opens.may_move v (omega (arith, l, size)) }

@@ -12,7 +12,7 @@ use Rattle.kc_table.specs.Log.{PassSeen, Seen, TableName}
 use Rattle.kc_table.specs.TableState.{TableState, state_of, first_vertex}
 use Rattle.kc_table.specs.Legal.{Legal, FollowsNote, last_entry, stamp_in}
 use Rattle.kc_order.specs.Standing.{list_after}
-use Rattle.kc_order.specs.Writers.{Puts, Stores}
+use Rattle.kc_order.specs.Writers.{Puts, Stores, StoresEntry}
 use Rattle.kc_levels.specs.Heads.{vertices_of, with_heads}
 
 -- levels, as contracts see them
@@ -120,9 +120,9 @@ pub record SealsOne (old new : Levelled) (v : ℕ) : Type 0 where
   pub here : word_at new v ≡ vertex_word (record { stamp = number_of old; core = slice_index old.core v })
   pub others : (w : ℕ) → w ≢ v → word_at new w ≡ word_at old w
 
--- The log has one more store, the note of an entry, and its section is open.
+-- The log has two more stores, the index and the note of an entry, and its section is open.
 pub record OpensSection (old new : Levelled) (index : ℕ) (update : Update) : Type 0 where
-  pub stores : Stores (seen old) (seen new) 0 (note_word (Enter update.add index update.u update.v))
+  pub stores : StoresEntry (seen old) (seen new) index (note_word (Enter update.add update.u update.v))
   pub order_is : new.order ≡ old.order
   pub core_is : new.core ≡ old.core
   pub open_is : new.open_ ≡ true
