@@ -103,7 +103,7 @@ module _ (x y : ℕ) where
   moved-same : (note : NoteWord) (word : ℕ) (list : List ℕ) → (Announces note x → word ≡ 1 + x → ⊥) → (Announces note y → word ≡ 1 + y → ⊥)
       → Same (moved note word list) list
   moved-same Nothing word list hx hy = same_self list
-  moved-same (Enter add index u v) word list hx hy = same_self list
+  moved-same (Enter add u v) word list hx hy = same_self list
   moved-same (Put z p) word list hx hy =
       elim (eqb word (1 + z)) as (λ b. eqb word (1 + z) ≡ b → Same (cond b (right_after z p (without z list)) list) list) [
         | true ↦ λ t.

@@ -14,7 +14,7 @@ use Rattle.kc_table.specs.declared.view.Event.{Event}
 use Rattle.kc_table.specs.Legal.{IsClosed, Legal}
 use Rattle.kc_table.specs.Log.{TableName}
 use Rattle.kc_table.specs.Sections.{item_put, puts_in}
-use Rattle.kc_table.specs.TableState.{after_store, entered, first_vertex, sealed, unsealed_from}
+use Rattle.kc_table.specs.TableState.{after_store, entered, first_vertex, index_in, sealed, unsealed_from}
 use Rattle.kc_table.proofs.LegalLogs.{legal-last, legal-prefix, state_of-nil, state_of-push}
 use Rattle.kc_table.proofs.Prefixes.{prefix_self, prefix_trans}
 use Rattle.kc_table.proofs.Putting.{puts_in-nil, puts_in-push}
@@ -68,12 +68,12 @@ module _ (table : TableName) (v : ℕ) where
 -- What sections put. --------------------------------------------------------------------------------------
 
 -- A note that leaves a vertex open is that of no entry.
-open-from : (v : ℕ) (note : NoteWord) (us : List ℕ) (entries : List Entry) → member v (unsealed_from note us) ≡ true
-    → (member v us ≡ true) × (entered note entries ≡ entries)
-open-from v Nothing us entries m = (m, refl)
-open-from v (Enter add index x y) us entries m = absurd (false≢true m)
-open-from v (Put x p) us entries m = (m, refl)
-open-from v (Take x) us entries m = (m, refl)
+open-from : (v index : ℕ) (note : NoteWord) (us : List ℕ) (entries : List Entry) → member v (unsealed_from note us) ≡ true
+    → (member v us ≡ true) × (entered index note entries ≡ entries)
+open-from v index Nothing us entries m = (m, refl)
+open-from v index (Enter add x y) us entries m = absurd (false≢true m)
+open-from v index (Put x p) us entries m = (m, refl)
+open-from v index (Take x) us entries m = (m, refl)
 
 module _ (table : TableName) (v : ℕ) (low : v < table.shape.fixed) where
   -- what is new in a section by one store
@@ -111,8 +111,8 @@ module _ (table : TableName) (v : ℕ) (low : v < table.shape.fixed) where
       elim (cases_Bool (eqb e.word 0)) [
         | inl t ↦
             let unsealed : next.unsealed ≡ unsealed_from (note_of e.value) s.unsealed = ap (λ z. z.unsealed) (push log e) ∙ rw t refl in
-            let entries : next.entries ≡ entered (note_of e.value) s.entries = ap (λ z. z.entries) (push log e) ∙ rw t refl in
-            let o = open-from v (note_of e.value) s.unsealed s.entries (sym (ap (member v) unsealed) ∙ m) in
+            let entries : next.entries ≡ entered (index_in s) (note_of e.value) s.entries = ap (λ z. z.entries) (push log e) ∙ rw t refl in
+            let o = open-from v (index_in s) (note_of e.value) s.unsealed s.entries (sym (ap (member v) unsealed) ∙ m) in
             let number : number_of table (log ++ e ∷ []) ≡ number_of table log = ap (λ (es : List Entry). table.shape.base + length es) (entries ∙ o.1) in
             subst (Put_in (log ++ e ∷ [])) (sym number) (put-next log e (number_of table log) (h o.0))
         | inr f ↦

@@ -21,7 +21,7 @@ use Rattle.kc_agree.specs.Stamps.{made_by, place_stamp}
 pub moved-put : (shape : Shape) (list : List ℕ) (note : NoteWord) (word v : ℕ) → v < shape.fixed → Announced shape list note
     → Announces note v → word ≡ 1 + v → member v (item_put note word) ≡ true
 moved-put shape list Nothing word v low a is w = absurd is
-moved-put shape list (Enter add index x y) word v low a is w = absurd is
+moved-put shape list (Enter add x y) word v low a is w = absurd is
 moved-put shape list (Put x p) word v low a is w =
     ap (λ b. member v (cond b (x ∷ []) [])) (eq-eqb word (1 + x) (omega (arith, w, is))) ∙ or_left (eqb v x) false (eq-eqb v x (sym is))
 moved-put shape list (Take x) word v low a is w = absurd (omega (arith, a, is, low))

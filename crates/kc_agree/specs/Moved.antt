@@ -10,7 +10,7 @@ use Rattle.kc_agree.specs.Stamps.{made_by}
 -- the note announces that this item is put or taken
 abbrev pub Announces : NoteWord → ℕ → Type 0
 Announces Nothing x = ⊥
-Announces (Enter add index u v) x = ⊥
+Announces (Enter add u v) x = ⊥
 Announces (Put y p) x = y ≡ x
 Announces (Take y) x = y ≡ x
 
