@@ -8,7 +8,7 @@ use Rattle.kc_cert.proofs.Turns.{length-firsts}
 use Rattle.kc_table.specs.Legal.{IsVersioned, version_of}
 use Rattle.kc_table.specs.Log.{Seen, TableName, event, value_at}
 use Rattle.kc_table.proofs.Steps.{value_at-other}
-use Rattle.kc_order.specs.Writers.{IsHighest, PutsEach, Stores}
+use Rattle.kc_order.specs.Writers.{IsHighest, PutsEach, Stores, with_store}
 use Rattle.kc_levels.specs.Levels.{Levelled, seen}
 use Rattle.kc_levels.specs.Makes.{SealsInTurn, backwards, puts_of}
 use Rattle.kc_levels.proofs.Steps.{length-backwards}
@@ -80,7 +80,11 @@ rises-section old new index update moves s =
     let puts = s.makes.puts_are in
     let count : length puts.puts ≡ length (moved_vertices moves) =
     sym (length-firsts puts.puts) ∙ (ap (λ (vs : List ℕ). length vs) puts.vertices ∙ puts-many moves) in
-    let begun : RisesBy (seen old) (seen s.begun) 0 = rises-store (seen old) (seen s.begun) 0 _ s.opens.stores (λ h. omega (arith, h.0)) in
+    let indexed : RisesBy (seen old) (with_store (seen old) 0 index) 0 =
+    rises-store (seen old) (with_store (seen old) 0 index) 0 index s.opens.stores.indexed (λ h. omega (arith, h.0)) in
+    let noted : RisesBy (with_store (seen old) 0 index) (seen s.begun) 0 =
+    rises-store (with_store (seen old) 0 index) (seen s.begun) 0 _ s.opens.stores.noted (λ h. omega (arith, h.0)) in
+    let begun : RisesBy (seen old) (seen s.begun) 0 = rises-both (seen old) (with_store (seen old) 0 index) (seen s.begun) 0 0 indexed noted in
     let put : RisesBy (seen s.begun) s.makes.between (2 * length puts.puts) = rises-puts (seen s.begun) s.makes.between puts.puts puts.run in
     let sealed : RisesBy s.makes.between (seen s.made) 0 = rises-seals _ _ s.makes.between (seen s.made) _ s.makes.seals_are in
     let all = rises-both (seen old) s.makes.between (seen s.made) _ 0
