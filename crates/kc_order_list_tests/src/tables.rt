@@ -15,7 +15,7 @@ const MIDDLE_ITEM: u64 = 786_432;
 const MIDDLE_GROUP: u64 = 549_755_813_888;
 
 /// A put of item 1 right after item 0: the note, and then the item's word.
-const PUT_NOTE: u64 = 9_223_372_036_856_872_960;
+const PUT_NOTE: u64 = 9_223_372_039_002_259_456;
 
 const PUT_ITEM: u64 = 1_099_512_545_280;
 

@@ -37,14 +37,14 @@ fn assert_note(rt: &impl Abort, note: NoteWord, word: u64)
 fn the_notes_have_their_layouts(rt: HostRuntime) {
     let enter = NoteWord::Enter {
         add: true,
-        index: 1,
         u: 0,
         v: 2,
     };
-    assert_note(&rt, enter, 6_917_529_577_396_895_746);
-    assert_note(&rt, NoteWord::Put { x: 5, p: 3 }, 9_223_372_036_865_261_571);
+    assert_note(&rt, enter, 6_917_529_027_641_081_858);
+    assert_note(&rt, NoteWord::Put { x: 5, p: 3 }, 9_223_372_047_592_194_051);
     assert_note(&rt, NoteWord::Take { x: 5 }, 13_835_058_055_282_163_717);
     assert_note(&rt, NoteWord::Nothing, 0);
+    assert_eq!(rt; NoteWord::of(u64::from(INDICES)), NoteWord::Nothing);
 }
 
 #[test]
@@ -79,7 +79,7 @@ fn the_last_version_has_none_after_it(rt: HostRuntime) {
 #[test]
 fn the_numbers_fit_their_fields(rt: HostRuntime) {
     assert_eq!(rt; VERTICES, 1 << 19);
-    assert_eq!(rt; INDICES, 1 << 22);
+    assert_eq!(rt; INDICES, u32::MAX - 1);
     let again = Again {
         word: 3,
         first: 1,

@@ -13,9 +13,9 @@ put_after-requires-clause-section g c = λ low.
     let new : Seen = c.note_enter.new.self in
     let h = c.note_enter.ensures in
     let shape = ap (λ (t : TableName). t.shape) c.requires.table in
-    let table = ap (λ (s : Seen). s.table.shape) h.stored.is ∙ shape in
+    let table = ap (λ (s : Seen). s.table.shape) h.stored.noted.is ∙ shape in
     subst (λ (s : Shape). MayPut s (state_of new.table.shape new.table.opening new.log) c.args.section.v) table
-    (may_put old new _ _ c.args.section.v (omega (arith, low, ap (λ (s : Shape). s.fixed) shape)) h.stored h.leaves)
+    (may_put old new _ _ _ c.args.section.v (omega (arith, low, ap (λ (s : Shape). s.fixed) shape)) h.stored h.leaves)
 
 pub returns-clause-stamp : goal.returns-clause-stamp
 returns-clause-stamp g c =
@@ -25,5 +25,5 @@ returns-clause-stamp g c =
     let h = c.note_enter.ensures in
     let shape = ap (λ (t : TableName). t.shape) c.requires.table in
     let low : c.args.section.v < old.table.shape.fixed = omega (arith, c.requires.shape.1, ap (λ (s : Shape). s.fixed) shape) in
-    let e = next_entry-entered old new _ _ c.args.section.v low h.stored h.leaves in
+    let e = next_entry-entered old new _ _ _ c.args.section.v low h.stored h.leaves in
     omega (arith, e.0, e.1, c.requires.next, same_stamp new end c.args.section.v (c.put_after.ensures.leaves.words_are c.args.section.v))
