@@ -133,8 +133,10 @@ impl Writer {
             u: update.u,
             v: update.v,
         };
-        store(words, &mut self.seat, 0, u64::from(index));
-        store(words, &mut self.seat, 0, note.pack());
+        let index = u64::from(index);
+        let note = note.pack();
+        store(words, &mut self.seat, 0, index);
+        store(words, &mut self.seat, 0, note);
     }
 
     /// Stores the word of a vertex: its core number, and as its stamp the number of the last entry.

@@ -30,44 +30,39 @@ stored c =
     (omega (arith, c.requires.index)) (omega (arith, c.requires.fits.0), omega (arith, c.requires.fits.1))
     (subst (λ (s : Seen). (state_of s.table.shape s.table.opening s.log).unsealed ≡ []) (sym c.self.view_is) c.requires.closed)
 
--- the index was stored
-between-is : (c : After-pack) → c.store.new.writer ≡ with_store (before c) 0 c.args.index
-between-is c = c.store.ensures ∙ ap (λ (value : ℕ). with_store (before c) 0 value) c.from.ensures
-
--- then the note was stored
-both-are : (c : After-pack) (new : Seen) → new ≡ with_store c.store.new.writer 0 c.pack.result → new ≡ with_both (before c) c.args.index (note c)
-both-are c new is = both-stored (before c) c.store.new.writer new _ c.args.index c.pack.result (note c) c.store.ensures c.from.ensures is c.pack.ensures.word
+-- the index was stored, and then the note
+both-are : (c : After-pack) (between new : Seen) → between ≡ with_store (before c) 0 c.from.result → new ≡ with_store between 0 c.pack.result
+    → new ≡ with_both (before c) c.args.index (note c)
+both-are c between new between-is new-is =
+    both-stored (before c) between new c.from.result c.args.index c.pack.result (note c) between-is c.from.ensures new-is c.pack.ensures.word
 
 pub store-requires-clause-legal : goal.store-requires-clause-legal
 store-requires-clause-legal c =
-    let done =
-    entry-stored c.self.inside.seat c.self.inside.plain c.args.index c.args.update.add c.args.update.u c.args.update.v c.self.invariant
-    (omega (arith, c.requires.index)) (omega (arith, c.requires.fits.0), omega (arith, c.requires.fits.1))
-    (subst (λ (s : Seen). (state_of s.table.shape s.table.opening s.log).unsealed ≡ []) (sym c.self.view_is) c.requires.closed) in
-    subst
-    (λ (value : ℕ).
-    legal.Legal c.self.inside.seat.table.shape c.self.inside.seat.table.opening (c.self.inside.seat.log ++ event 0 value ∷ []))
-    (sym c.from.ensures) done.indexed
+    let at = (goal.at.store-requires-clause-legal c).After-pack in
+    subst (λ (value : ℕ). legal.Legal (before at).table.shape (before at).table.opening ((before at).log ++ event 0 value ∷ []))
+    (sym at.from.ensures) (stored at).indexed
 
 pub store-requires-2-clause-legal : goal.store-requires-2-clause-legal
 store-requires-2-clause-legal c =
     let at = (goal.at.store-requires-2-clause-legal c).After-pack in
+    let between : c.store.new.writer ≡ with_store (before at) 0 c.args.index =
+    c.store.ensures ∙ ap (λ (value : ℕ). with_store (before at) 0 value) at.from.ensures in
     subst (λ (z : Seen × ℕ). legal.Legal z.0.table.shape z.0.table.opening (z.0.log ++ event 0 z.1 ∷ []))
-    (λ i. (sym (between-is at) i, sym at.pack.ensures.word i)) (stored at).noted
+    (λ i. (sym between i, sym at.pack.ensures.word i)) (stored at).noted
 
 pub invariant_of-self : goal.invariant_of-self
 invariant_of-self c =
     let at = (goal.at.invariant_of-self c).After-pack in
-    (stored at).tied c.store-2.new.writer (both-are at c.store-2.new.writer c.store-2.ensures)
+    (stored at).tied c.store-2.new.writer (both-are at c.store.new.writer c.store-2.new.writer c.store.ensures c.store-2.ensures)
 
 pub returns-clause-stored : goal.returns-clause-stored
 returns-clause-stored c =
     let at = (goal.at.returns-clause-stored c).After-pack in
     (stores-entry (before at) c.args.self.now c.store-2.new.writer c.self.inside.plain c.args.index (note at) (entry at) c.self.view_is (stored at)
-    (both-are at c.store-2.new.writer c.store-2.ensures)).0
+    (both-are at c.store.new.writer c.store-2.new.writer c.store.ensures c.store-2.ensures)).0
 
 pub returns-clause-leaves : goal.returns-clause-leaves
 returns-clause-leaves c =
     let at = (goal.at.returns-clause-leaves c).After-pack in
     (stores-entry (before at) c.args.self.now c.store-2.new.writer c.self.inside.plain c.args.index (note at) (entry at) c.self.view_is (stored at)
-    (both-are at c.store-2.new.writer c.store-2.ensures)).1
+    (both-are at c.store.new.writer c.store-2.new.writer c.store.ensures c.store-2.ensures)).1
