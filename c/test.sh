@@ -144,7 +144,7 @@ for program in $(programs_of keep); do
     printf 'batch 1 changed 4\n0 0 2\n1 0 2\n2 0 2\n3 0 1\nbatch 2 changed 1\n3 1 2\nbatch 3 changed 2\n1 2 1\n4 0 1\n5 0 1\n' > "$build/wanted"
     cmp "$build/wanted" "$build/found"
     "$build/$program" < /dev/null | cmp - /dev/null
-    for line in '1 2' '+1 2' '+ 1' '+ 1 2 3' '- 1 -2' '+ 1 524288' '+ 99999999999999999999 1' '+ 1 2x' '* 1 2' '+ 1 2\0003'; do
+    for line in '1 2' '+1 2' '+ 1' '+ 1 2 3' '- 1 -2' '+ 1 16777216' '+ 99999999999999999999 1' '+ 1 2x' '* 1 2' '+ 1 2\0003'; do
         printf "+ 0 1\n+ 1 2\n$line\n+ 2 0\n" | refused 'line 3: this is not'
     done
     # All edges of a graph as one batch, and then away one by one: in the end each core number is 0 again.

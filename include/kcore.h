@@ -286,7 +286,7 @@ KCORE_LOOK_AT_ANSWER struct kcore_answer kcore_h_index_round(const uint64_t *off
 struct kcore_keeper;
 
 /* How many vertices a keeper can have. */
-#define KCORE_KEEPER_VERTICES 524288u
+#define KCORE_KEEPER_VERTICES 16777216u
 
 /* The edge between the vertices u and v, in either order, is to come, or is to go where `add` is 0. A loop is no edge: where u and v are
  * the same, nothing changes. */

@@ -52,7 +52,7 @@ class Cores:
     Raises
     ------
     ValueError
-        Where there are more than 524,288 vertices.
+        Where there are more than 16,777,216 vertices.
     NotAVertexError, TypeError, ValueError, MemoryError
         As `core_numbers` does.
 
@@ -260,7 +260,7 @@ class Cores:
         MemoryError
             Where there is none. The message tells how many updates were made, removals first; the core numbers are those after them.
         ValueError
-            Where there would be more than 524,288 vertices. Nothing was changed.
+            Where there would be more than 16,777,216 vertices. Nothing was changed.
         TypeError, ValueError
             As `core_numbers` does. Nothing was changed.
         """

@@ -15,7 +15,7 @@ NOT_OPEN, TOO_MANY_VERTICES, TOO_FEW_VERTICES = range(14, 17)
 WRONG_OFFSETS_LENGTH, NOT_FROM_ZERO, DESCENDING, LONG_ROW, WRONG_LAST_OFFSET = range(17, 22)
 
 #: How many vertices a keeper can have, as KCORE_KEEPER_VERTICES of include/kcore.h has it.
-KEEPER_VERTICES = 524288
+KEEPER_VERTICES = 16777216
 
 #: The version of this package and of the library that it calls.
 __version__ = "0.1.0"

@@ -154,7 +154,7 @@ class CoresTest(unittest.TestCase):
             ([("a", "b")], TypeError, "names=True"),
             ([(0, 1, 2)], ValueError, "edge 0"),
             ([(0, -1)], ValueError, "names=True"),
-            ([(0, _library.KEEPER_VERTICES)], ValueError, "there may be 524288"),
+            ([(0, _library.KEEPER_VERTICES)], ValueError, "there may be 16777216"),
             ("ab", TypeError, "pairs"),
         ):
             with self.subTest(edges=edges), self.assertRaisesRegex(error, told):
@@ -171,7 +171,7 @@ class CoresTest(unittest.TestCase):
             kcore.Cores([(0, 1), (1, 5)], vertices=2)
         with self.assertRaisesRegex(TypeError, "names"):
             kcore.Cores(names=True, vertices=2)
-        with self.assertRaisesRegex(ValueError, "there may be 524288"):
+        with self.assertRaisesRegex(ValueError, "there may be 16777216"):
             kcore.Cores([], vertices=_library.KEEPER_VERTICES + 1)
 
     def test_nothing_can_be_asked_after_the_end(self):

@@ -19,7 +19,7 @@ pub const HALF_STEP: u64 = BOTTOM_ROOM / (HALF_ITEMS as u64 + 1);
 /// A put right after the item that was put last takes its label this part of the gap from the lower
 /// end, and one at the place of the put before it this part from the upper end: puts in a row are
 /// followed by more, and leave them the room.
-pub const PUT_SHARE: u32 = 32;
+pub const PUT_SHARE: u32 = 20;
 
 /// Where a group is split, the label of the new one stands this part of the gap from one end, so that
 /// the half that grows has nearly all of it.

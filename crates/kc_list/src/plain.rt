@@ -24,7 +24,7 @@ use std::marker::Model;
 ///
 /// Items are numbers below `items`. Those below `fixed` are in the list from its opening on, and
 /// stay. Item `x` has word `1 + x` and group `g`, which is from 1 to `items + 1`, has word
-/// `items + g`. The words have versions of 24 bits, which count the writes to them.
+/// `items + g`. The words have versions of 26 bits, which count the writes to them.
 #[derive(Drop)]
 pub struct PlainOrder {
     list: LabelledList,

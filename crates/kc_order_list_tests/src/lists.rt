@@ -64,7 +64,7 @@ fn check_middle(rt: &impl Abort, order: &mut PlainOrder)
     let middle = ItemWord {
         version: 1,
         group: first.group,
-        bottom: 393_216,
+        bottom: 3_072,
     };
     assert_eq!(rt; (write.word, ItemWord::of(write.value)), (2, middle));
 }
@@ -84,16 +84,16 @@ fn check_opening(rt: &impl Abort, order: &PlainOrder, items: u32, bottom: u32)
     let first = ItemWord::of(order.opening(1));
     assert!(rt; 1 <= first.group && first.group <= items + 1);
     let group = GroupWord::of(order.opening(items + first.group));
-    assert_eq!(rt; (first.bottom, group.top), (bottom, 549_755_813_888));
+    assert_eq!(rt; (first.bottom, group.top), (bottom, 137_438_953_472));
     assert_eq!(rt; (order.writes().len(), order.highest()), (0, 0));
 }
 
 #[test]
 fn a_list_opens_with_even_labels(rt: HostRuntime) {
     let one = ascending(rt.alloc(), 1, 1).expect(&rt, "no memory");
-    check_opening(&rt, &one, 1, 262_144);
+    check_opening(&rt, &one, 1, 2_048);
     let many = ascending(rt.alloc(), 32, 32).expect(&rt, "no memory");
-    check_opening(&rt, &many, 32, 15_887);
+    check_opening(&rt, &many, 32, 124);
 }
 
 /// Fills the group of 0 to 31, and puts one item more into it.

@@ -10,14 +10,14 @@ use std::thread;
 use std::thread::Threads;
 
 /// An item in group 1 whose label is the middle of the group's room, and a group whose label is the middle of the room of groups.
-const MIDDLE_ITEM: u64 = 786_432;
+const MIDDLE_ITEM: u64 = 6_144;
 
-const MIDDLE_GROUP: u64 = 549_755_813_888;
+const MIDDLE_GROUP: u64 = 137_438_953_472;
 
 /// A put of item 1 right after item 0: the note, and then the item's word.
 const PUT_NOTE: u64 = 9_223_372_039_002_259_456;
 
-const PUT_ITEM: u64 = 1_099_512_545_280;
+const PUT_ITEM: u64 = 274_877_914_112;
 
 #[test]
 fn a_told_pass_and_one_split_from_it_load_what_was_stored(rt: HostRuntime) -> Result<(), Fail> {

@@ -17,12 +17,9 @@ fn the_words_have_their_layouts(rt: HostRuntime) {
     let group = GroupWord { version: 1, top: 5 };
     let vertex = VertexWord { stamp: 7, core: 2 };
     let packed = [item.pack(), group.pack(), vertex.pack()];
-    assert_eq!(rt;
-        packed,
-        [1_099_512_676_355, 1_099_511_627_781, 30_064_771_074]
-    );
-    assert_eq!(rt; ItemWord::of(1_099_512_676_355), item);
-    assert_eq!(rt; GroupWord::of(1_099_511_627_781), group);
+    assert_eq!(rt; packed, [274_877_915_139, 274_877_906_949, 30_064_771_074]);
+    assert_eq!(rt; ItemWord::of(274_877_915_139), item);
+    assert_eq!(rt; GroupWord::of(274_877_906_949), group);
     assert_eq!(rt; VertexWord::of(30_064_771_074), vertex);
 }
 
@@ -69,16 +66,16 @@ fn a_table_of_two_items_has_seven_words(rt: HostRuntime) {
 fn the_last_version_has_none_after_it(rt: HostRuntime) {
     let next = [
         next_version(0),
-        next_version(16_777_214),
-        next_version(16_777_215),
+        next_version(67_108_862),
+        next_version(67_108_863),
     ];
-    assert_eq!(rt; next, [Some(1), Some(16_777_215), None]);
-    assert_eq!(rt; LAST_VERSION, 16_777_215);
+    assert_eq!(rt; next, [Some(1), Some(67_108_863), None]);
+    assert_eq!(rt; LAST_VERSION, 67_108_863);
 }
 
 #[test]
 fn the_numbers_fit_their_fields(rt: HostRuntime) {
-    assert_eq!(rt; VERTICES, 1 << 19);
+    assert_eq!(rt; VERTICES, 1 << 24);
     assert_eq!(rt; INDICES, u32::MAX - 1);
     let again = Again {
         word: 3,

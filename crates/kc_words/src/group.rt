@@ -10,7 +10,7 @@ const TOP_MASK: u64 = (1 << TOP_BITS) - 1;
 /// The label of a group among the groups of the two-level list (Dietz and Sleator, 1987). The
 /// version counts the stores to the word.
 ///
-/// From the highest bit on: 24 bits of version, 40 of top label.
+/// From the highest bit on: 26 bits of version, 38 of top label.
 #[derive(Clone, Copy, Debug, Drop, Eq, PartialEq)]
 pub struct GroupWord {
     pub version: u32,

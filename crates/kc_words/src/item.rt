@@ -16,7 +16,7 @@ const BOTTOM_MASK: u64 = (1 << BOTTOM_BITS) - 1;
 /// An item's place in the two-level list: its group, where 0 says that the item is out, and its
 /// label in the group (Dietz and Sleator, 1987). The version counts the stores to the word.
 ///
-/// From the highest bit on: 24 bits of version, 21 of group, 19 of bottom label.
+/// From the highest bit on: 26 bits of version, 26 of group, 12 of bottom label.
 #[derive(Clone, Copy, Debug, Drop, Eq, PartialEq)]
 pub struct ItemWord {
     pub version: u32,
