@@ -1,5 +1,5 @@
 -- What callers see of the list.
-use Rattle.std.specs.Prelude.{◌≡◌, ℕ, ◌+◌, ◌<◌, ◌≤◌, List, [], ◌∷◌, ◌++◌, length, slice_index, true}
+use Rattle.std.specs.Prelude.{◌≡◌, ℕ, ◌+◌, ◌<◌, ◌≤◌, List, [], ◌∷◌, ◌++◌, slice_index, true}
 use Rattle.kc_lists.specs.Lists.{member}
 use Rattle.kc_list.specs.declared.sheet.Write.{Write}
 use Rattle.kc_words.specs.Order.{Ordered}
@@ -7,11 +7,10 @@ use Rattle.kc_list.specs.Sheets.{Paper, stored, OrderedAlong, RaisedAlong}
 use Rattle.kc_list.specs.Tally.{AreGroupSizes}
 use Rattle.kc_list.specs.declared.limits.TheConstants.{ITEM_WRITES}
 
--- the items are the numbers below `items`, those below `fixed` stay in the list; `opening` and `words` are by word number
+-- the items are the numbers below `items`, those below `fixed` stay in the list; `words` are by word number
 pub record Plain : Type 0 where
   pub items : ℕ
   pub fixed : ℕ
-  pub opening : List ℕ
   pub words : List ℕ
   pub list : List ℕ
   pub writes : List Write
@@ -29,10 +28,9 @@ pub record Written (n : ℕ) (before after : List ℕ) (x : ℕ) (old new : List
   pub last_is : last.word ≡ 1 + x
 
 -- what is kept between two calls beside the labels: the sizes of the groups, and memory enough for a call
-pub record IsBetweenCalls (n fixed : ℕ) (list : List ℕ) (sheet : Paper) (sizes : List ℕ) (scratch : ℕ) (opening : List ℕ) : Type 0 where
+pub record IsBetweenCalls (n fixed : ℕ) (list : List ℕ) (sheet : Paper) (sizes : List ℕ) (scratch : ℕ) : Type 0 where
   pub fixed_in : (x : ℕ) → x < fixed → member x list ≡ true
   pub tallied : AreGroupSizes n sheet.words list sizes
   pub scratch_room : n ≤ scratch
   pub write_room : n + ITEM_WRITES ≤ sheet.room
-  pub opening_length : length opening ≡ n + n + 2
   pub note : slice_index sheet.words 0 ≡ 0

@@ -29,7 +29,6 @@ use std::marker::Model;
 pub struct PlainOrder {
     list: LabelledList,
     scratch: GroupRoom,
-    opening: Vec<u64>,
     fixed: u32,
     last: LastPut,
 }
@@ -65,13 +64,12 @@ impl Model for PlainOrder {
     ghost view = { λ a. record {
       items = a.list.links.size;
       fixed = a.fixed;
-      opening = a.opening.items;
       words = a.list.sheet.words;
       list = a.list.links.list;
       writes = a.list.sheet.writes;
     } };
 
-    ghost invariant = { λ a. IsBetweenCalls a.list.links.size a.fixed a.list.links.list a.list.sheet a.list.groups a.scratch a.opening.items };
+    ghost invariant = { λ a. IsBetweenCalls a.list.links.size a.fixed a.list.links.list a.list.sheet a.list.groups a.scratch };
 }
 
 impl PlainOrder {
@@ -84,7 +82,6 @@ impl PlainOrder {
         ensures fixed { IfOk result (λ a. a.fixed ≡ shape.fixed) }
         ensures list { IfOk result (λ a. a.list ≡ order.now) }
         ensures writes { IfOk result (λ a. a.writes ≡ []) }
-        ensures opening { IfOk result (λ a. a.words ≡ a.opening) }
         ensures versions { IfOk result (λ a. (w : ℕ) → 1 ≤ w → w ≤ 2 * shape.items + 1
             → version a.words w ≡ shape.version) }
         ensures highest { IfOk result (λ a. highest_of a.words ≡ shape.version) }
@@ -94,7 +91,6 @@ impl PlainOrder {
     {
         let links = link(alloc, shape.items, order)?;
         let words = opening_words(alloc, shape.items, shape.version, order)?;
-        let opening = words.as_slice().to_vec(alloc)?;
         let sheet = Sheet::open(
             alloc,
             words,
@@ -110,7 +106,6 @@ impl PlainOrder {
                 groups,
             },
             scratch,
-            opening,
             fixed: shape.fixed,
             last: LastPut {
                 item: shape.items,
@@ -119,13 +114,13 @@ impl PlainOrder {
         })
     }
 
-    /// The value with which an item's or a group's word opened.
-    pub fn opening(&self, word: u32) -> u64
+    /// The value of an item's or a group's word.
+    pub fn word(&self, word: u32) -> u64
         requires low { 1 ≤ word }
         requires high { word ≤ 2 * self.now.items + 1 }
-        ensures { result ≡ slice_index self.now.opening word }
+        ensures { result ≡ slice_index self.now.words word }
     {
-        self.opening[word as usize]
+        self.list.sheet.word(word)
     }
 
     /// What the last call wrote, in order; nothing after the opening.
@@ -146,7 +141,6 @@ impl PlainOrder {
         requires versions { highest_of self.old.words + 3 ≤ LAST_VERSION }
         ensures items { self.new.items ≡ self.old.items }
         ensures fixed { self.new.fixed ≡ self.old.fixed }
-        ensures opening { self.new.opening ≡ self.old.opening }
         ensures list { self.new.list ≡ right_after x p (without x self.old.list) }
         ensures written { Written self.old.items self.old.list self.new.list x
             self.old.words self.new.words self.new.writes }
@@ -168,7 +162,6 @@ impl PlainOrder {
         requires versions { highest_of self.old.words + 3 ≤ LAST_VERSION }
         ensures items { self.new.items ≡ self.old.items }
         ensures fixed { self.new.fixed ≡ self.old.fixed }
-        ensures opening { self.new.opening ≡ self.old.opening }
         ensures list { self.new.list ≡ without x self.old.list }
         ensures written { Written self.old.items self.old.list self.new.list x
             self.old.words self.new.words self.new.writes }

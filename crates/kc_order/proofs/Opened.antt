@@ -154,15 +154,14 @@ pub record Opening (shape : Shape) (words : List ℕ) (order : List ℕ) : Type 
   pub list : listed (labels shape.items words) shape.items ≡ order
 
 -- words made of a plain list's, no note and the vertices' words open a table with its list
-pub opening-of : (shape : Shape) (plain : Plain) (words order vertex : List ℕ) → AreOpeningWords words plain.opening vertex shape.items
-    → plain.words ≡ plain.opening
+pub opening-of : (shape : Shape) (plain : Plain) (words order vertex : List ℕ) → AreOpeningWords words plain.words vertex shape.items
     → ((w : ℕ) → 1 ≤ w → w ≤ 2 * shape.items + 1 → version plain.words w ≡ shape.version) → Ordered shape.items plain.words order
     → ((x : ℕ) → member x order ≡ true → x < shape.items)
     → ((v : ℕ) → v < shape.fixed → member v order ≡ true) → length vertex ≡ shape.fixed
     → ((v : ℕ) → v < shape.fixed → (vertex_of (get_or vertex v 0)).stamp ≤ shape.base) → Opening shape words order
-opening-of shape plain words order vertex h same versions o within vertices long stamps =
+opening-of shape plain words order vertex h versions o within vertices long stamps =
     let agree : (w : ℕ) → 1 ≤ w → w < 2 * shape.items + 2 → get_or words w 0 ≡ get_or plain.words w 0 =
-    λ w low high. h.plain w low high ∙ ap (λ l. get_or l w 0) (sym same) in
+    h.listed in
     let ordered : Ordered shape.items words order = ordered-agree shape.items plain.words words order o within agree in
     let list : listed (labels shape.items words) shape.items ≡ order = listed-is shape.items words order ordered within in
     record {
@@ -181,10 +180,10 @@ opening-of shape plain words order vertex h same versions o within vertices long
 
 -- the plain list with whose words a table opens is tied to its empty log
 pub tied-open : (shape : Shape) (plain : Plain) (words order vertex : List ℕ) (table : TableName) (seen : Seen) → Opening shape words order
-    → AreOpeningWords words plain.opening vertex shape.items → plain.words ≡ plain.opening
+    → AreOpeningWords words plain.words vertex shape.items
     → plain.items ≡ shape.items → plain.fixed ≡ shape.fixed → plain.list ≡ order → length plain.words ≡ 2 * shape.items + 2 → version plain.words 0 ≡ 0
     → (table.shape ≡ shape) × (table.opening ≡ words) → seen ≡ record { table = table; log = [] } → Tied seen plain
-tied-open shape plain words order vertex table seen opening h same items fixed list long note named is =
+tied-open shape plain words order vertex table seen opening h items fixed list long note named is =
     subst (λ (z : Seen). Tied z plain) (sym is) (made table named.0 named.1)
   where
     made : (t : TableName) → t.shape ≡ shape → t.opening ≡ words → Tied (record { table = t; log = [] }) plain
@@ -206,8 +205,7 @@ tied-open shape plain words order vertex table seen opening h same items fixed l
           long = long ∙ ap (λ (z : Shape). 2 * z.items + 2) (sym s);
           words =
               λ w k.
-              ap (λ l. get_or l w 0) same
-              ∙ (sym (h.plain w k.0 (omega (arith, k.1, ap (λ (z : Shape). z.items) s))) ∙ ap (λ l. get_or l w 0) (sym o));
+              sym (h.listed w k.0 (omega (arith, k.1, ap (λ (z : Shape). z.items) s))) ∙ ap (λ l. get_or l w 0) (sym o);
           note = note;
           quiet = λ w. subst (λ z. legal.FollowsNote z.note w) (sym begun) tt;
         }

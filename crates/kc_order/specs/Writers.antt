@@ -146,8 +146,8 @@ pub record StoresEntry (old new : Seen) (index note : ℕ) : Type 0 where
   pub noted : Stores (with_store old 0 index) new 0 note
 
 -- no note, the words of the items and groups, and those of the vertices
-pub record AreOpeningWords (words opening vertex : List ℕ) (items : ℕ) : Type 0 where
+pub record AreOpeningWords (words plain vertex : List ℕ) (items : ℕ) : Type 0 where
   pub long : length words ≡ 2 * items + 2 + length vertex
   pub note : slice_index words 0 ≡ 0
-  pub plain : (w : ℕ) → 1 ≤ w → w < 2 * items + 2 → slice_index words w ≡ slice_index opening w
+  pub listed : (w : ℕ) → 1 ≤ w → w < 2 * items + 2 → slice_index words w ≡ slice_index plain w
   pub vertices : (v : ℕ) → v < length vertex → slice_index words (2 * items + 2 + v) ≡ slice_index vertex v

@@ -225,12 +225,12 @@ fn opening_words(
     vertex: &[u64],
 ) -> Result<Vec<u64>, NoMemory>
     requires items { plain.now.items ≡ shape.items }
-    ensures { IfOk result (λ words. AreOpeningWords words.items plain.now.opening vertex.now shape.items) }
+    ensures { IfOk result (λ words. AreOpeningWords words.items plain.now.words vertex.now shape.items) }
 {
     let mut words = Vec::with_capacity(alloc, shape.words() as usize)?;
     words.push(0)?;
     for word in 1..2 * shape.items + 2 {
-        words.push(plain.opening(word))?;
+        words.push(plain.word(word))?;
     }
     words.extend_from_slice(vertex)?;
     Ok(words)

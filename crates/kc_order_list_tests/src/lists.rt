@@ -57,7 +57,7 @@ fn put(rt: &impl Abort, order: &mut PlainOrder, x: u32, p: u32)
 fn check_middle(rt: &impl Abort, order: &mut PlainOrder)
     requires { order.old.items ≡ 2 }
 {
-    let first = ItemWord::of(order.opening(1));
+    let first = ItemWord::of(order.word(1));
     put(rt, order, 1, 0);
     assert_eq!(rt; order.writes().len(), 1);
     let write = order.writes()[0];
@@ -81,9 +81,9 @@ fn check_opening(rt: &impl Abort, order: &PlainOrder, items: u32, bottom: u32)
     requires few { items ≤ ITEMS }
     requires items { order.now.items ≡ items }
 {
-    let first = ItemWord::of(order.opening(1));
+    let first = ItemWord::of(order.word(1));
     assert!(rt; 1 <= first.group && first.group <= items + 1);
-    let group = GroupWord::of(order.opening(items + first.group));
+    let group = GroupWord::of(order.word(items + first.group));
     assert_eq!(rt; (first.bottom, group.top), (bottom, 137_438_953_472));
     assert_eq!(rt; (order.writes().len(), order.highest()), (0, 0));
 }

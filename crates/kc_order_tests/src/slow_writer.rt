@@ -74,12 +74,12 @@ impl SlowWriter {
 /// The opening words of a table without vertices: no note, and the words of the list.
 fn opening_words(alloc: Global, shape: Shape, plain: &PlainOrder) -> Result<Vec<u64>, NoMemory>
     requires items { plain.now.items ≡ shape.items }
-    ensures { IfOk result (λ words. AreOpeningWords words.items plain.now.opening [] shape.items) }
+    ensures { IfOk result (λ words. AreOpeningWords words.items plain.now.words [] shape.items) }
 {
     let mut words = Vec::new(alloc);
     words.push(0)?;
     for word in 1..2 * shape.items + 2 {
-        words.push(plain.opening(word))?;
+        words.push(plain.word(word))?;
     }
     Ok(words)
 }

@@ -6,4 +6,4 @@ use Rattle.kc_order_tests.proofs.slow_writer.opening_words.Given as goal
 abbrev pub invariant-loop-word : goal.invariant-loop-word
 invariant-loop-word l =
     (length l.words.items ≡ l.word) × (slice_index l.words.items 0 ≡ 0)
-    × ((w : ℕ) → 1 ≤ w → w < l.word → slice_index l.words.items w ≡ slice_index l.plain.opening w)
+    × ((w : ℕ) → 1 ≤ w → w < l.word → slice_index l.words.items w ≡ slice_index l.plain.words w)

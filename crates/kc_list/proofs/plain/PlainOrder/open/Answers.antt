@@ -1,5 +1,5 @@
 -- The opening words are sound, have the sizes that are counted, and one version.
-use Rattle.std.proofs.Common.{◌+◌, [], ap, sym, ◌∙◌, length, arith}
+use Rattle.std.proofs.Common.{◌+◌, [], sym, arith}
 use Rattle.kc_lists.proofs.Members.{below_bound}
 use Rattle.kc_list.specs.Sheets.{Paper}
 use Rattle.kc_list.specs.Plain.{IsBetweenCalls}
@@ -25,15 +25,12 @@ invariant_of-result-clause-sound c = rw (c.in_ok-links.ensures, c.in_ok-sheet.en
 pub invariant_of-result-2 : goal.invariant_of-result-2
 invariant_of-result-2 c =
     let sheet : Paper = record { words = c.in_ok-words.words.items; writes = []; room = c.args.shape.items + ITEM_WRITES } in
-    let copied = c.in_ok-opening.ensures.items_if_clones_equal (λ x y h. h) ∙ c.as_slice.ensures.value in
-    let whole : IsBetweenCalls c.args.shape.items c.args.shape.fixed c.args.order.now sheet c.in_ok-groups.groups c.in_ok-scratch.scratch
-    c.in_ok-opening.opening.items = record {
+    let whole : IsBetweenCalls c.args.shape.items c.args.shape.fixed c.args.order.now sheet c.in_ok-groups.groups c.in_ok-scratch.scratch = record {
       fixed_in = c.requires.fixed_in;
       tallied = opened_tallied c.args.shape.items c.args.shape.version c.args.order.now c.in_ok-words.words.items c.in_ok-groups.groups c.requires.distinct
           c.requires.within c.in_ok-words.ensures c.in_ok-groups.ensures.length c.in_ok-groups.ensures.none c.in_ok-groups.ensures.sizes;
       scratch_room = omega (arith, c.in_ok-scratch.ensures);
       write_room = omega arith;
-      opening_length = ap length copied ∙ c.in_ok-words.ensures.size;
       note = c.in_ok-words.ensures.note;
     } in
     rw (c.in_ok-links.ensures, c.in_ok-sheet.ensures) whole

@@ -89,7 +89,6 @@ invariant_of-self c =
         c.clear.ensures.room,
         c.self.invariant.write_room,
       );
-      opening_length = omega (arith, list.0, c.self.invariant.opening_length);
       note = note_kept c.self.inside.list.links.size c.self.inside.list.links.list c.move_item.new.self.links.list c.args.x c.clear.new.self.words
           c.move_item.new.self.sheet.words c.move_item.new.self.sheet.writes (written_by at)
           (ap (λ us. get_or us 0 0) c.clear.ensures.words ∙ c.self.invariant.note);

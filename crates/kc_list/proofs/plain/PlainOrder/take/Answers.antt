@@ -33,7 +33,6 @@ invariant_of-self c = record {
   scratch_room = omega (arith, c.take_item.ensures.takes.size, c.self.invariant.scratch_room);
   write_room =
       omega (arith, c.take_item.ensures.takes.size, c.take_item.ensures.takes.stores.room, c.clear.ensures.room, c.self.invariant.write_room);
-  opening_length = omega (arith, c.take_item.ensures.takes.size, c.self.invariant.opening_length);
   note = note_kept c.self.inside.list.links.size c.self.inside.list.links.list c.take_item.new.self.links.list c.args.x c.clear.new.self.words
       c.take_item.new.self.sheet.words c.take_item.new.self.sheet.writes (one_write c)
       (ap (λ us. get_or us 0 0) c.clear.ensures.words ∙ c.self.invariant.note);

@@ -16,7 +16,7 @@ opening-so : (c : In_ok-words) → Opening c.args.shape c.in_ok-words.words.item
 opening-so c =
     let e = c.in_ok-plain.ensures in
     opening-of c.args.shape c.in_ok-plain.plain c.in_ok-words.words.items c.args.order.now c.args.vertex.now c.in_ok-words.ensures
-    e.opening e.versions e.ordered c.requires.within c.requires.vertices c.requires.words c.requires.stamps
+    e.versions e.ordered c.requires.within c.requires.vertices c.requires.words c.requires.stamps
 
 pub open-requires-2 : goal.open-requires-2
 open-requires-2 c = (opening-so (goal.at.open-requires-2 c).In_ok-words).opens
@@ -26,7 +26,7 @@ invariant_of-result c =
     let e = c.in_ok-plain.ensures in
     let of = c.in_ok-words-2.ensures in
     tied-open c.args.shape c.in_ok-plain.plain c.in_ok-words.words.items c.args.order.now c.args.vertex.now c.in_ok-words-2.words
-    c.in_ok-words-2.seat (opening-so (goal.at.invariant_of-result c).In_ok-words) c.in_ok-words.ensures e.opening e.items e.fixed e.list e.long
+    c.in_ok-words-2.seat (opening-so (goal.at.invariant_of-result c).In_ok-words) c.in_ok-words.ensures e.items e.fixed e.list e.long
     (ap (λ z. (item_of z).version) e.note ∙ none_version) (of.words.0, of.words.1) of.writer
 
 pub returns-clause-list : goal.returns-clause-list

@@ -10,7 +10,7 @@ open-requires-2 c =
     let e = c.in_ok-plain.ensures in
     let o : Opening c.args.shape c.in_ok-words.words.items c.args.order.now =
     opening-of c.args.shape c.in_ok-plain.plain c.in_ok-words.words.items c.args.order.now [] c.in_ok-words.ensures
-    e.opening e.versions e.ordered c.requires.within (λ v l. absurd (omega (arith, l, c.requires.free)))
+    e.versions e.ordered c.requires.within (λ v l. absurd (omega (arith, l, c.requires.free)))
     (sym c.requires.free) (λ v l. absurd (omega (arith, l, c.requires.free))) in
     o.opens
 
@@ -19,9 +19,9 @@ invariant_of-result c =
     let e = c.in_ok-plain.ensures in
     let o : Opening c.args.shape c.in_ok-words.words.items c.args.order.now =
     opening-of c.args.shape c.in_ok-plain.plain c.in_ok-words.words.items c.args.order.now [] c.in_ok-words.ensures
-    e.opening e.versions e.ordered c.requires.within (λ v l. absurd (omega (arith, l, c.requires.free)))
+    e.versions e.ordered c.requires.within (λ v l. absurd (omega (arith, l, c.requires.free)))
     (sym c.requires.free) (λ v l. absurd (omega (arith, l, c.requires.free))) in
     let of = c.in_ok-words-2.ensures in
     tied-open c.args.shape c.in_ok-plain.plain c.in_ok-words.words.items c.args.order.now [] c.in_ok-words-2.words
-    c.in_ok-words-2.seat o c.in_ok-words.ensures e.opening e.items e.fixed e.list e.long
+    c.in_ok-words-2.seat o c.in_ok-words.ensures e.items e.fixed e.list e.long
     (ap (λ z. (item_of z).version) e.note ∙ none_version) (of.words.0, of.words.1) of.writer
