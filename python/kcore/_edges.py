@@ -5,10 +5,10 @@ from __future__ import annotations
 from array import array
 from typing import Any, Dict, List, Tuple
 
-from . import _lists
+from . import _library, _lists
 
-# A key is an edge, the lesser end first, with 20 bits for the other: a keeper has at most 2^19 vertices.
-_BITS = 20
+# A key is an edge, the lesser end first, with as many bits for the other as the last vertex of a keeper has.
+_BITS = (_library.KEEPER_VERTICES - 1).bit_length()
 _OTHER = (1 << _BITS) - 1
 
 # How many updates may wait, beyond as many as there are edges.

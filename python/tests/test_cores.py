@@ -125,6 +125,15 @@ class CoresTest(unittest.TestCase):
         self.assertEqual(cores.to_edges(), [(0, 2), (1, 2), (1, 9), (3, 4)])
         self.assertTrue(cores.check())
 
+    def test_edges_of_the_last_vertices_that_may_be_are_told(self):
+        last = _library.KEEPER_VERTICES - 1
+        edges = [(0, 1), (0, last), (1, last), (last - 1, last)]
+        kept = _edges.KeptEdges(_edges.flat(edges)[0])
+        self.assertEqual(kept.pairs(), edges)
+        if numpy:
+            kept = _edges.KeptEdges(_edges.flat(numpy.array(edges, numpy.uint32))[0])
+            self.assertEqual(list(map(tuple, kept.pairs().tolist())), edges)
+
     def test_edges_are_put_together_now_and_then(self):
         cores = kcore.Cores([(0, 1)])
         with unittest.mock.patch.object(_edges, "_FEW", 3):
