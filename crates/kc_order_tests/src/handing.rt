@@ -124,11 +124,11 @@ fn put_and_meet<K: Name + Send + Sync, R: Threads + Wait + Abort + Sync>(
     thread::join(
         rt,
         move ||
-            requires { (other.table ≡ K.opened.table) × (PUTS < K.opened.table.shape.items) }
-        { put_all(rt, shared, waiting, other) },
-        move ||
             requires { (pass.table ≡ K.opened.table) × (PUTS < K.opened.table.shape.items) }
         { meet_all(rt, shared, waiting, pass) },
+        move ||
+            requires { (other.table ≡ K.opened.table) × (PUTS < K.opened.table.shape.items) }
+        { put_all(rt, shared, waiting, other) },
     );
 }
 

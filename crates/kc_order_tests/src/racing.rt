@@ -203,11 +203,11 @@ fn race<K: Name + Send + Sync, R: Threads + Wait + Abort + Sync>(
     thread::join(
         rt,
         move ||
-            requires { (other.table ≡ K.opened.table) × (2 * ROUNDS + 2 < K.opened.table.shape.items) }
-        { put_and_take_all(rt, shared, newest, other) },
-        move ||
             requires { (pass.table ≡ K.opened.table) × (2 * ROUNDS + 2 < K.opened.table.shape.items) }
         { compare_all(rt, shared, newest, pass) },
+        move ||
+            requires { (other.table ≡ K.opened.table) × (2 * ROUNDS + 2 < K.opened.table.shape.items) }
+        { put_and_take_all(rt, shared, newest, other) },
     );
 }
 

@@ -139,12 +139,12 @@ fn publish_and_read<K: Name + Send + Sync, R: Threads + Wait + Abort + AllocGlob
     thread::join(
         rt,
         move ||
+            requires { (words.now ≡ K.opened.table) × (second.table ≡ K.opened.table) × (3 < graph.now.size) }
+        { read_all(rt, words, shared, second, graph, 3) },
+        move ||
             requires { (words.now ≡ K.opened.table) × (first.table ≡ K.opened.table) × (graph.now ≡ K.opened.edges)
                 × (graph.now.size ≡ K.opened.table.shape.fixed) × (BASE ≤ K.opened.table.shape.base) }
         { publish_all(rt, words, shared, first, graph) },
-        move ||
-            requires { (words.now ≡ K.opened.table) × (second.table ≡ K.opened.table) × (3 < graph.now.size) }
-        { read_all(rt, words, shared, second, graph, 3) },
     );
     for vertex in 0..4u32 {
         assert_eq!(rt; read_one(rt, words, shared, &mut pass, graph, vertex), BASE);

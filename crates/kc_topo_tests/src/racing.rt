@@ -97,11 +97,11 @@ fn race<K: Name + Send + Sync, R: Threads + Wait + Abort + AllocGlobal + Sync>(
     thread::join(
         rt,
         move ||
-            requires { (other.table ≡ K.opened.table) × (LAST < K.opened.table.shape.items) }
-        { add_all(rt, dag, ended, other) },
-        move ||
             requires { (pass.table ≡ K.opened.table) × (LAST < K.opened.table.shape.items) }
         { compare_all(rt, dag, ended, pass) },
+        move ||
+            requires { (other.table ≡ K.opened.table) × (LAST < K.opened.table.shape.items) }
+        { add_all(rt, dag, ended, other) },
     );
 }
 

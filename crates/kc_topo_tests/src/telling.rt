@@ -151,11 +151,11 @@ fn tell_three<K: Name + Send + Sync, R: Threads + Wait + Abort + AllocGlobal + S
     thread::join(
         rt,
         move ||
-            requires { (adding.table ≡ K.opened.table) × (LAST < K.opened.table.shape.items) }
-        { add_and_tell(rt, dag, board, adding) },
-        move ||
             requires { (comparing.table ≡ K.opened.table) × (LAST < K.opened.table.shape.items) }
         { compare_by_three(rt, dag, board, comparing) },
+        move ||
+            requires { (adding.table ≡ K.opened.table) × (LAST < K.opened.table.shape.items) }
+        { add_and_tell(rt, dag, board, adding) },
     );
 }
 

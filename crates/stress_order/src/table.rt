@@ -125,12 +125,12 @@ fn race<K: Name + Send + Sync, R: Threads + Wait + Sync>(
     let own = split(shared.words(), &mut pass);
     let board = &open_board::<K>(pass);
     let changer = Changer::<K>::new(own, plain, seed);
-    let ((changer, refused), found) = thread::join(
+    let (found, (changer, refused)) = thread::join(
         rt,
-        move || changer.change(rt, shared, board),
         move ||
             requires { K.opened.table.shape.items ≡ ITEMS }
         { compare_by_all(rt, alloc, shared, board, seed, others) },
+        move || changer.change(rt, shared, board),
     );
     let mut counted = Counted {
         tables: 1,
