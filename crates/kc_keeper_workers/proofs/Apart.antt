@@ -10,6 +10,7 @@ use Rattle.kc_graph.specs.SimpleGraph.{SimpleGraph, adjacent}
 use Rattle.kc_graph.specs.declared.update.Update.{Update}
 use Rattle.kc_text.specs.Inputs.{IsBatch, edge_of, parts_of}
 use Rattle.kc_text.specs.LastUpdates.{last_of_edges, same_edge}
+use Rattle.kc_text.proofs.Decided.{length-last}
 use Rattle.kc_batch_effects.specs.Batches.{graph_after_update}
 use Rattle.kc_batch_effects.proofs.Applying.{contains-ordered, contains-other, graph_after_update-add, graph_after_update-remove}
 use Rattle.kc_keeper.specs.Batches.{made_in_turn}
@@ -61,20 +62,12 @@ one-more {g} {us} {i} {old} {new} vertices u applied is_batch low here told is a
 
 -- The last updates of edges. -------------------------------------------------------------------------------
 
--- they are no more than all updates
-last-few : (us : List Update) → length (last_of_edges us) ≤ length us
-last-few [] = omega arith
-last-few (x ∷ rest) = elim (list_any (same_edge x) rest) as (λ t. length (cond t (last_of_edges rest) (x ∷ last_of_edges rest)) ≤ length (x ∷ rest)) [
-  | true ↦ omega (arith, last-few rest)
-  | false ↦ omega (arith, last-few rest)
-]
-
 -- where they are as many they are all
 pub all-decide : (us : List Update) → length (last_of_edges us) ≡ length us → last_of_edges us ≡ us
 all-decide [] many = refl
 all-decide (x ∷ rest) many =
     elim (list_any (same_edge x) rest) as (λ t. length (cond t (last_of_edges rest) (x ∷ last_of_edges rest)) ≡ length (x ∷ rest)
     → cond t (last_of_edges rest) (x ∷ last_of_edges rest) ≡ x ∷ rest) [
-      | true ↦ λ k. absurd (omega (arith, k, last-few rest))
+      | true ↦ λ k. absurd (omega (arith, k, length-last rest))
       | false ↦ λ k. ap (λ (z : List Update). x ∷ z) (all-decide rest (omega (arith, k)))
     ] many
