@@ -18,6 +18,7 @@ use Rattle.kc_tally.specs.Lists.{first_fault, last_edge}
 use Rattle.kc_tally.specs.Tallies.{AreTallied}
 use Rattle.kc_tally.proofs.Faults.{faults-append}
 use Rattle.kc_claims.specs.Certificates.{TellEach}
+use Rattle.kc_claims.specs.Places.{ArePlaces}
 use Rattle.kc_claims.specs.declared.claim.Claim.{Claim}
 use Rattle.kc_claims.specs.Sweeping.{AreToldBy, HasCounted, HasSwept, edge_said, named}
 use Rattle.kc_claims.specs.declared.sweep.Sweep.{Sweep}
@@ -49,12 +50,12 @@ AreToldBy-append ids xs ys es fs first second =
 
 -- more edges are counted
 pub HasCounted-more : (start old now : Sweep) (before more : List Edge) → HasCounted start old before → now.ids ≡ old.ids → now.core ≡ old.core
-    → now.rank ≡ old.rank → now.last ≡ last_edge old.last more → now.count ≡ old.count + length more → now.count ≤ GRAPH.edge_lines
+    → now.rank ≡ old.rank → now.places ≡ old.places → now.last ≡ last_edge old.last more → now.count ≡ old.count + length more → now.count ≤ GRAPH.edge_lines
     → first_fault (length old.core.items) 0 old.last more ≡ None
     → ((earlier : List Edge) → AreTallied old.core.items old.rank.items earlier old.later.items old.supporters.items
     → AreTallied old.core.items old.rank.items (earlier ++ more) now.later.items now.supporters.items)
     → HasCounted start now (before ++ more)
-HasCounted-more start old now before more h ids core rank last count few faultless tally = record {
+HasCounted-more start old now before more h ids core rank places last count few faultless tally = record {
   ids = ids ∙ h.ids;
   core = core ∙ h.core;
   rank = rank ∙ h.rank;
@@ -70,6 +71,7 @@ HasCounted-more start old now before more h ids core rank last count few faultle
   within = few;
   tally = subst (λ (c : Vec ℕ Global). AreTallied c.items now.rank.items (before ++ more) now.later.items now.supporters.items) (sym core)
       (subst (λ (r : Vec ℕ Global). AreTallied old.core.items r.items (before ++ more) now.later.items now.supporters.items) (sym rank) (tally before h.tally));
+  placed = subst (ArePlaces now.ids.items) (sym places) (subst (λ (v : Vec ℕ Global). ArePlaces v.items old.places) (sym ids) h.placed);
 }
 
 -- what is counted doesn't hang on the edges that are put
@@ -88,6 +90,7 @@ HasCounted-put start now put edges h = record {
   counted = h.counted;
   within = h.within;
   tally = h.tally;
+  placed = h.placed;
 }
 
 -- the edges of more lines are counted
@@ -107,8 +110,8 @@ HasSwept-more start old now before lines told ended h more counted =
 pub HasSwept-fresh : (s : Sweep) → IsStrictlyIncreasing s.ids.items → length s.ids.items < 2 ^ 32 → length s.core.items ≡ length s.ids.items
     → length s.rank.items ≡ length s.ids.items → s.last ≡ None → s.count ≡ 0 → length s.later.items ≡ length s.ids.items
     → length s.supporters.items ≡ length s.ids.items → ((v : ℕ) → v < length s.ids.items → at s.later.items v ≡ 0)
-    → ((v : ℕ) → v < length s.ids.items → at s.supporters.items v ≡ 0) → HasSwept s s []
-HasSwept-fresh s up few numbers ranks last count later supporters none others = record {
+    → ((v : ℕ) → v < length s.ids.items → at s.supporters.items v ≡ 0) → ArePlaces s.ids.items s.places → HasSwept s s []
+HasSwept-fresh s up few numbers ranks last count later supporters none others placed = record {
   edges = [];
   told = refl;
   counted = record {
@@ -129,6 +132,7 @@ HasSwept-fresh s up few numbers ranks last count later supporters none others = 
       later_counted = λ v l. none v (omega (arith, l, numbers));
       supporters_counted = λ v l. others v (omega (arith, l, numbers));
     };
+    placed = placed;
   };
 }
 

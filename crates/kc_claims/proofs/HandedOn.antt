@@ -1,5 +1,6 @@
 -- How a text is handed on, one piece after another.
-use Rattle.std.proofs.Common.{◌≡◌, ◌<◌, ◌∙◌, ◌++◌, ℕ, IfSome, List, [], ◌∷◌, Option, ap, append-nil, append_assoc, arith, length, subst, sym}
+use Rattle.std.proofs.Common.{◌≡◌, ◌≢◌, ◌<◌, ◌∙◌, ◌++◌, ℕ, Err, IfSome, List, Ok, [], ◌∷◌, Option, Result, ap, append-nil, append_assoc, arith, length, subst, sym}
+use Rattle.std.specs.Result.{IsErrAnd}
 use Rattle.std.specs.Io.KnownBytes.{Consumes, IsAtEnd}
 use Rattle.std.proofs.KnownBytes.{Consumes-all, Consumes-trans}
 use Rattle.kc_text.specs.Lines.{EndsLine}
@@ -61,3 +62,13 @@ pub HasFed-shorter : {T : Type 0} (taken : T → T → List ℕ → Type 0) (sta
     → HasFed taken start now carry (text ++ none) → HasFed taken start now carry text
 HasFed-shorter taken start now carry text [] e f = subst (HasFed taken start now carry) (append-nil text) f
 HasFed-shorter taken start now carry text (x ∷ xs) e f = absurd (omega arith)
+
+-- an error that was handed on is the one that there was
+pub passed-err : {T U E : Type 0} (r : Result U E) (x y : E) → IsErrAnd r (λ e. e ≡ x) → r ≡ Err y → ◌≡◌ {A = Result T E} (Err x) (Err y)
+passed-err (Ok u) x y is of = absurd is
+passed-err (Err e) x y is of = let p : x ≡ y = cc in ap Err p
+
+-- an error that was handed on is another one than there was not
+pub passed-other : {T U E : Type 0} (r : Result U E) (x y : E) → IsErrAnd r (λ e. e ≡ x) → r ≢ Err y → ◌≢◌ {A = Result T E} (Err x) (Err y)
+passed-other (Ok u) x y is other = absurd is
+passed-other (Err e) x y is other = λ same. other (let p : e ≡ y = cc in ap Err p)

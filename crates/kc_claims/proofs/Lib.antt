@@ -9,3 +9,5 @@ pub mod Swept
 pub mod HandedOn
 pub mod Counted
 pub mod Streamed
+pub mod LineFaulting
+pub mod Insisted

@@ -16,14 +16,11 @@ use Rattle.kc_text.specs.Meaning.{Means, Told, ends, ends_or, first_limit, names
 use Rattle.kc_text.specs.TellingLines.{edge_lines, is_telling}
 use Rattle.kc_text.proofs.Counts.{distinct_count-le_from_members}
 use Rattle.kc_text.proofs.Places.{length-AreIds}
+use Rattle.kc_claims.specs.Streams.{IsAmong}
 
 -- what lines tell that tell just edges
 abbrev pub edges_told : List (ℕ × ℕ) → Told
 edges_told edges = record { edges = edges; earlier = []; last = None }
-
--- both ends are ids
-abbrev pub IsAmong : List ℕ → ℕ × ℕ → Type 0
-IsAmong ids e = (is_member nat_eq ids e.0 ≡ true) × (is_member nat_eq ids e.1 ≡ true)
 
 -- the names of edges between ids are ids
 pub ends-among : (ids : List ℕ) (edges : List (ℕ × ℕ)) → All (IsAmong ids) edges → (q : ℕ) → is_member nat_eq (ends edges) q ≡ true

@@ -1,19 +1,22 @@
 -- What the counts of a stream show of the claims, in the graph that its bytes mean.
 use Rattle.std.proofs.Common.{◌≡◌, ◌≤◌, ◌<◌, ◌⊎◌, ◌∙◌, Global, ℕ, IfSome, List, None, Option, Some, Vec, ap, arith, length, map, refl, subst, sym}
 use Rattle.std.specs.List.Sorted.{IsStrictlyIncreasing}
-use Rattle.std.proofs.lemmas.List.{length-map}
+use Rattle.std.proofs.lemmas.List.{get_or_default, length-map}
+use Rattle.kc_lists.specs.Lists.{member}
 use Rattle.kc_graph.specs.Peeling.{at}
 use Rattle.kc_graph.specs.SimpleGraph.{SimpleGraph}
 use Rattle.kc_text.specs.Forms.{all_said}
-use Rattle.kc_text.specs.Meaning.{Means, meaning}
+use Rattle.kc_text.specs.Meaning.{Means, meaning, names}
 use Rattle.kc_text.specs.declared.limits.TheConstants.Limits.{GRAPH}
 use Rattle.kc_text.proofs.Fed.{meaning-is}
 use Rattle.kc_tally.specs.Lists.{ListsEachOnce}
 use Rattle.kc_tally.proofs.Faults.{once-from_none}
-use Rattle.kc_claims.specs.Certificates.{AreCertificate, IsBetween, IsFirstFault, TellCoreNumbers, TellEach, claim_at, later_neighbours, supporters}
+use Rattle.kc_claims.specs.Certificates.{AreCertificate, IsBetween, IsFirstFault, IsUnknown, TellCoreNumbers, TellEach, claim_at, later_neighbours}
+use Rattle.kc_claims.specs.Certificates.{supporters}
 use Rattle.kc_claims.specs.Checking.{IsMiscountAt}
 use Rattle.kc_claims.specs.Feeding.{IsFedWith}
-use Rattle.kc_claims.specs.Streams.{HoldsOfStream}
+use Rattle.kc_claims.specs.Insisting.{HasCount, IsFirstUncounted}
+use Rattle.kc_claims.specs.Streams.{HoldsOfIds, HoldsOfNames, HoldsOfStream}
 use Rattle.kc_claims.specs.Sweeping.{Agrees, HasBegunFor, HasCounted, HasSwept, IsFirstMiscount, IsMiscountOf, named}
 use Rattle.kc_claims.specs.declared.claim.Claim.{Claim}
 use Rattle.kc_claims.specs.declared.fault.ClaimFault.{ClaimFault}
@@ -21,9 +24,11 @@ use Rattle.kc_claims.specs.declared.fault.ClaimFault.TheVariants.{Unknown, Repea
 use Rattle.kc_claims.specs.declared.stream.Begun.{Begun}
 use Rattle.kc_claims.specs.declared.sweep.Sweep.{Sweep}
 use Rattle.kc_claims.proofs.Certified.{AreCertificate-between, IsFirstFault-miscount}
+use Rattle.kc_claims.proofs.Rising.{ids-apart}
 use Rattle.kc_claims.proofs.Seidman.{TellCoreNumbers-certificate}
 use Rattle.kc_claims.proofs.StreamLines.{edges_told, reading-told}
-use Rattle.kc_claims.proofs.Swept.{ids-named, later-counted, pairs-among, said-same, size-streamed, streamed, supporters-counted, within}
+use Rattle.kc_claims.proofs.Swept.{counted-names, ids-named, later-counted, pairs-among, said-same, size-streamed, streamed, supporters-counted}
+use Rattle.kc_claims.proofs.Swept.{uncounted-unnamed, within}
 
 -- what is wrong with a claim by these counts is so where they are the counts of its vertex
 miscount-at : (g : SimpleGraph) (core rank : List ℕ) (v : ℕ) (claim : Claim) (later supporting : ℕ) (fault : ClaimFault)
@@ -107,6 +112,77 @@ module _ (claims : List Claim) (begun : Begun) (h : HasBegunFor claims begun) (n
         supported = omega (arith, enough, told.all.numbers i l, supporters-are v k);
       }
 
+  -- the first claim that does not agree is the first fault in the graph with a vertex for each claimed id
+  first-fault : (fault : ClaimFault) → IsFirstMiscount claims begun.order.items now.later.items now.supporters.items fault → IsFirstFault ids g claims fault
+  first-fault fault first =
+      let v : ℕ = at begun.order.items first.place in
+      let k : v < length core = omega (arith, told.all.vertices first.place first.within, size) in
+      IsFirstFault-miscount ids g claims begun.order.items core rank told (claim_at claims first.place) first.place fault first.within refl
+      (λ i l. between i (omega (arith, l, first.within)) (first.before i l))
+      (miscount-at g core rank v (claim_at claims first.place) (at now.later.items v) (at now.supporters.items v) fault (later-is v k) (supporters-are v k)
+      first.here)
+
+  -- so it is told
+  pub faulty-ids : (fault : ClaimFault) → IsFirstMiscount claims begun.order.items now.later.items now.supporters.items fault
+      → HoldsOfIds (λ ids g. IsFirstFault ids g claims fault) known
+  faulty-ids fault first = record {
+    text = fed.text;
+    read = fed.read;
+    told = edges_told (map (named ids) fed.took.edges);
+    means = means;
+    ids = ids;
+    ascending = c.ascending;
+    among = pairs-among ids fed.took.edges once.lesser_first
+        (within ids core rank fed.took.edges c.ascending size (omega (arith, c.few, size)) once);
+    found = first-fault fault first;
+  }
+
+  -- where all claims agree, the first one of whose vertex nothing is counted is of an id that no line names
+  pub unknown-stream : (claim : Claim) → ((i : ℕ) → i < length claims → Agrees claims begun.order.items now.later.items now.supporters.items i)
+      → IsFirstUncounted claims begun.order.items now.later.items now.supporters.items claim → HoldsOfNames (λ ids. IsUnknown ids claims claim) known
+  unknown-stream claim all first =
+      let v : ℕ = at begun.order.items first.place in
+      let k : v < length core = omega (arith, told.all.vertices first.place first.within, size) in
+      let zero : at core v ≡ 0 = omega (arith, (all first.place first.within).1, told.all.numbers first.place first.within, first.no_supporter) in
+      record {
+        text = fed.text;
+        read = fed.read;
+        told = edges_told (map (named ids) fed.took.edges);
+        means = means;
+        found = record {
+          place = first.place;
+          within = first.within;
+          is = first.is;
+          unknown =
+              ap (λ id. member id (names (edges_told (map (named ids) fed.took.edges))))
+              (ap (λ (x : Claim). x.id) first.is ∙ sym (told.all.named first.place first.within))
+              ∙ uncounted-unnamed ids core rank fed.took.edges c.ascending size (omega (arith, c.few, size)) once now.later.items now.supporters.items
+              c.tally v k zero first.no_supporter;
+          before = record {
+            known = λ i l.
+                let here : at begun.order.items i < length core =
+                omega (arith, told.all.vertices i (omega (arith, l, first.within)), size) in
+                ap (λ id. member id (names (edges_told (map (named ids) fed.took.edges)))) (sym (told.all.named i (omega (arith, l, first.within))))
+                ∙ counted-names ids core rank fed.took.edges c.ascending size (omega (arith, c.few, size)) once now.later.items now.supporters.items
+                c.tally (at begun.order.items i) here (first.before i l);
+            once = λ i j l m same.
+                let k : j < length claims = omega (arith, m, first.within) in
+                let h : i < length claims = omega (arith, l, k) in
+                told.enumerates.distinct i j 0 l (omega (arith, told.all.one_each, k))
+                (ids-apart ids c.ascending (at begun.order.items i) (at begun.order.items j) (told.all.vertices i h) (told.all.vertices j k)
+                (told.all.named i h ∙ same ∙ sym (told.all.named j k)));
+          };
+        };
+      }
+
+  -- each vertex has a claim, so where something is counted of the vertices of all claims, something is counted of each
+  pub met-claims : ((i : ℕ) → i < length claims → HasCount now.later.items now.supporters.items (at begun.order.items i))
+      → (v : ℕ) → v < length now.later.items → HasCount now.later.items now.supporters.items v
+  met-claims each v l =
+      let (i, k, is) = told.enumerates.complete v (omega (arith, l, c.tally.later_each, size)) in
+      subst (HasCount now.later.items now.supporters.items) (get_or_default begun.order.items i 0 v k ∙ is)
+      (each i (omega (arith, k, told.all.one_each)))
+
   module _ (met : (v : ℕ) → v < length now.later.items → (0 < at now.later.items v) ⊎ (0 < at now.supporters.items v)) where
     -- what holds of the ids and the graph of the stream
     holds : (P : List ℕ → SimpleGraph → Type 0) → P ids g → HoldsOfStream P known
@@ -133,11 +209,4 @@ module _ (claims : List Claim) (begun : Begun) (h : HasBegunFor claims begun) (n
     -- the first claim that does not agree is the first fault
     pub faulty-stream : (fault : ClaimFault) → IsFirstMiscount claims begun.order.items now.later.items now.supporters.items fault
         → HoldsOfStream (λ ids g. IsFirstFault ids g claims fault) known
-    faulty-stream fault first =
-        let v : ℕ = at begun.order.items first.place in
-        let k : v < length core = omega (arith, told.all.vertices first.place first.within, size) in
-        holds (λ ids g. IsFirstFault ids g claims fault)
-        (IsFirstFault-miscount ids g claims begun.order.items core rank told (claim_at claims first.place) first.place fault first.within refl
-        (λ i l. between i (omega (arith, l, first.within)) (first.before i l))
-        (miscount-at g core rank v (claim_at claims first.place) (at now.later.items v) (at now.supporters.items v) fault (later-is v k) (supporters-are v k)
-        first.here))
+    faulty-stream fault first = holds (λ ids g. IsFirstFault ids g claims fault) (first-fault fault first)

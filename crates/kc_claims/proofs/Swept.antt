@@ -1,6 +1,7 @@
 -- The graph of a stream whose edges were counted, and what the counts are in it.
-use Rattle.std.proofs.Common.{◌≡◌, ◌≤◌, ◌<◌, ◌+◌, ◌^◌, ◌⊎◌, ℕ, Bool, Option, true, false, cond, eqb, nat_lt, append-nil, ◌&&◌, ◌||◌, List, [], ◌∷◌, length, map, nat_eq, None, Some, leb}
-use Rattle.std.proofs.Common.{refl, sym, ap, ap₂, ◌∙◌, arith, inl, inr, eq-eqb, ne_eqb, lt-ltb, subst}
+use Rattle.std.proofs.Common.{◌≡◌, ◌≢◌, ◌≤◌, ◌<◌, ◌+◌, ◌^◌, ◌⊎◌, ℕ, Bool, Option, true, false, cond, eqb, nat_lt, append-nil, ◌&&◌, ◌||◌}
+use Rattle.std.proofs.Common.{List, [], ◌∷◌, length, map, nat_eq, None, Some, leb}
+use Rattle.std.proofs.Common.{refl, sym, ap, ap₂, ◌∙◌, arith, inl, inr, eq-eqb, ne_eqb, le-leb, lt-ltb, subst}
 use Rattle.std.specs.Prelude.{All, count_by}
 use Rattle.std.specs.FinSet.{from_list}
 use Rattle.std.specs.List.{cons_option, filter_map}
@@ -26,9 +27,10 @@ use Rattle.kc_tally.specs.Lists.{ListsEachOnce}
 use Rattle.kc_tally.specs.Tallies.{AreTallied, capped, later_count, leads_to, supporter_count}
 use Rattle.kc_tally.proofs.EdgeCounts.{count-adjacent, edges-cons, leads-few}
 use Rattle.kc_claims.specs.Certificates.{later_neighbours, supporters}
+use Rattle.kc_claims.specs.Streams.{IsAmong}
 use Rattle.kc_claims.specs.Sweeping.{edge_said, named}
-use Rattle.kc_claims.proofs.Rising.{id-place}
-use Rattle.kc_claims.proofs.StreamLines.{IsAmong, edges_told, ends-among}
+use Rattle.kc_claims.proofs.Rising.{id-place, ids-apart}
+use Rattle.kc_claims.proofs.StreamLines.{edges_told, ends-among}
 
 -- the two ends of an edge
 abbrev ends_of_edge : Edge → ℕ × ℕ
@@ -106,6 +108,45 @@ module _ (ids : List ℕ) where
         neither : (vu vv tv tu : Bool) → vu ≡ false → vv ≡ false → ((vu && tv) || (vv && tu)) ≡ false
         neither vu vv tv tu b c = grind arith
 
+    -- a vertex from which no edge leads is not named
+    leads-none : (test : ℕ → Bool) (v : ℕ) (edges : List Edge) → v < length ids → ((w : ℕ) → test w ≡ true) → All (λ e. e.u < e.v) edges
+        → All (λ e. e.v < length ids) edges → count_by (leads_to test v) edges ≡ 0
+        → is_member nat_eq (ends (map (named ids) edges)) (at ids v) ≡ false
+    leads-none test v [] l all up within none = refl
+    leads-none test v (e ∷ edges) l all up within none =
+        let first : e.u < e.v = All-head (λ e. e.u < e.v) e edges up in
+        let second : e.v < length ids = All-head (λ e. e.v < length ids) e edges within in
+        let parts = edges-cons (leads_to test v) e edges in
+        let not_first : nat_eq (at ids v) (at ids e.u) ≡ false = elim (cases_eq v e.u) [
+          | inl is ↦ absurd (omega (
+            arith,
+            none,
+            parts,
+            ap {B = ℕ} (λ b. cond b 1 0)
+                (or_left (nat_eq v e.u && test e.v) (nat_eq v e.v && test e.u) (both (nat_eq v e.u) (test e.v) (eq-eqb v e.u is) (all e.v))),
+          ))
+          | inr ne ↦ apart v e.u l (omega arith) ne
+        ] in
+        let not_second : nat_eq (at ids v) (at ids e.v) ≡ false = elim (cases_eq v e.v) [
+          | inl is ↦ absurd (omega (
+            arith,
+            none,
+            parts,
+            ap {B = ℕ} (λ b. cond b 1 0)
+                (or_right (nat_eq v e.u && test e.v) _ (both (nat_eq v e.v) (test e.u) (eq-eqb v e.v is) (all e.u))),
+          ))
+          | inr ne ↦ apart v e.v l second ne
+        ] in
+        let rest : is_member nat_eq (ends (map (named ids) edges)) (at ids v) ≡ false =
+        leads-none test v edges l all (All-tail (λ e. e.u < e.v) e edges up) (All-tail (λ e. e.v < length ids) e edges within) (omega (arith, none, parts)) in
+        ap₂ (λ (a b : Bool). a || b) not_first (ap₂ (λ (a b : Bool). a || b) not_second rest)
+      where
+        both : (a b : Bool) → a ≡ true → b ≡ true → (a && b) ≡ true
+        both a b p q = grind arith
+
+        apart : (a b : ℕ) → a < length ids → b < length ids → a ≢ b → nat_eq (at ids a) (at ids b) ≡ false
+        apart a b l k ne = ne_eqb (at ids a) (at ids b) (λ same. ne (ids-apart ids ascending a b l k same))
+
 module _ (ids core rank : List ℕ) (edges : List Edge) (ascending : IsStrictlyIncreasing ids) (size : length core ≡ length ids)
     (few : length core ≤ 2 ^ 32) (once : ListsEachOnce (length core) edges) where
   -- both ends are vertices
@@ -173,15 +214,28 @@ module _ (ids core rank : List ℕ) (edges : List Edge) (ascending : IsStrictlyI
     names-told : names (edges_told (map (named ids) edges)) ≡ ends (map (named ids) edges)
     names-told = ap ends (append-nil (map (named ids) edges))
 
+    -- so it is among the names that are told
+    pub counted-names : (v : ℕ) → v < length core → (0 < at later v) ⊎ (0 < at supporting v)
+        → is_member nat_eq (names (edges_told (map (named ids) edges))) (at ids v) ≡ true
+    counted-names v l some = ap (λ (t : List ℕ). is_member nat_eq t (at ids v)) names-told ∙ counted-named v l some
+
+    -- a vertex that has the number 0 and no supporter is not named
+    pub uncounted-unnamed : (v : ℕ) → v < length core → at core v ≡ 0 → at supporting v ≡ 0
+        → is_member nat_eq (names (edges_told (map (named ids) edges))) (at ids v) ≡ false
+    uncounted-unnamed v l zero none =
+        let test : ℕ → Bool = λ w. leb (at core v) (at core w) in
+        let counted : at supporting v ≡ capped (count_by (leads_to test v) edges) = tally.supporters_counted v l in
+        ap (λ (t : List ℕ). is_member nat_eq t (at ids v)) names-told
+        ∙ leads-none ids ascending test v edges (omega (arith, l, size)) (λ w. le-leb (at core v) (at core w) (omega (arith, zero)))
+        once.lesser_first within (omega (arith, counted, none))
+
     -- where something is counted of each vertex, each id is named
     each-named : ((v : ℕ) → v < length core → (0 < at later v) ⊎ (0 < at supporting v)) → (id : ℕ) → is_member nat_eq ids id ≡ true
         → is_member nat_eq (names (edges_told (map (named ids) edges))) id ≡ true
     each-named each id h =
         let (v, l, is) = id-place ids id h in
-        let here : is_member nat_eq (ends (map (named ids) edges)) (at ids v) ≡ true =
-        counted-named v (omega (arith, l, size)) (each v (omega (arith, l, size))) in
-        ap (λ (t : List ℕ). is_member nat_eq t id) names-told
-        ∙ (ap (λ (x : ℕ). is_member nat_eq (ends (map (named ids) edges)) x) (sym is) ∙ here)
+        ap (is_member nat_eq (names (edges_told (map (named ids) edges)))) (sym is)
+        ∙ counted-names v (omega (arith, l, size)) (each v (omega (arith, l, size)))
 
     -- and what is named is an id
     named-each : (id : ℕ) → is_member nat_eq (names (edges_told (map (named ids) edges))) id ≡ true → is_member nat_eq ids id ≡ true

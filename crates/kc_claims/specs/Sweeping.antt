@@ -13,6 +13,7 @@ use Rattle.kc_text.specs.declared.line.TextLine.TheVariants as said
 use Rattle.kc_tally.specs.Lists.{first_fault, last_edge}
 use Rattle.kc_tally.specs.Tallies.{AreTallied}
 use Rattle.kc_claims.specs.Certificates.{TellEach, claim_at}
+use Rattle.kc_claims.specs.Places.{ArePlaces}
 use Rattle.kc_claims.specs.declared.claim.Claim.{Claim}
 use Rattle.kc_claims.specs.declared.fault.ClaimFault.{ClaimFault}
 use Rattle.kc_claims.specs.declared.fault.ClaimFault.TheVariants.{ManyLater, FewSupporters}
@@ -45,6 +46,7 @@ pub record HasCounted (start now : Sweep) (edges : List Edge) : Type 0 where
   pub counted : now.count ≡ length edges
   pub within : now.count ≤ GRAPH.edge_lines
   pub tally : AreTallied now.core.items now.rank.items edges now.later.items now.supporters.items
+  pub placed : ArePlaces now.ids.items now.places
 
 -- the edges of just these bytes were counted
 pub record HasSwept (start now : Sweep) (text : List ℕ) : Type 0 where

@@ -1,11 +1,11 @@
 //! Why a text is no certificate.
-ghost use Rattle.std.specs.Prelude.{◌≡◌};
+ghost use Rattle.std.specs.Prelude.{◌≡◌, ◌≢◌};
 ghost use Rattle.kc_claims.specs.Certificates.{id_of};
 
 use crate::claim::Claim;
 use kc_graph::NoMemory;
 use kc_io::Failed;
-use kc_text::Refusal;
+use kc_text::{Kind, Refusal};
 
 /// Why a text gives no claims.
 #[derive(Clone, Copy, Debug, PartialEq, Eq)]
@@ -53,6 +53,68 @@ impl ClaimFault {
             | ClaimFault::ManyLater(claim, _)
             | ClaimFault::FewSupporters(claim, _) => claim.id,
             ClaimFault::Missing(id) => id,
+        }
+    }
+}
+
+/// What is wrong with a line of a stream whose edges are to ascend between ids that are claimed.
+#[derive(Clone, Copy, Debug, PartialEq, Eq)]
+pub enum LineFault {
+    /// It is no line of a graph without batches, for this cause.
+    Refused(Kind),
+    /// Its edge has not the lesser id first, or is not above the one before it.
+    Descends,
+    /// It names this id, of which there is no claim.
+    Unclaimed(u32),
+}
+
+/// A line of a stream, and what is wrong with it.
+#[derive(Clone, Copy, Debug, PartialEq, Eq)]
+pub struct FaultyLine {
+    /// The number of the line, from 1.
+    pub line: u64,
+    pub fault: LineFault,
+}
+
+/// Why a stream tells nothing of claims.
+#[derive(Clone, Copy, Debug, PartialEq, Eq)]
+pub enum StreamFault {
+    /// A line is wrong.
+    Line(FaultyLine),
+    /// The source failed.
+    ReadFault,
+    /// There is no memory for the counts.
+    NoMemory,
+}
+
+/// Why lines are not taken.
+#[derive(Clone, Copy, Debug, PartialEq, Eq)]
+pub(crate) enum Untaken {
+    /// They are not such lines.
+    Unfit,
+    /// There is no memory for them.
+    NoMemory,
+}
+
+impl From<NoMemory> for Untaken {
+    ghost use Rattle.std.specs.Prelude.{◌≡◌};
+    ghost use Rattle.kc_claims.specs.declared.fault.Untaken.{Untaken};
+
+    ghost from_gives = { λ _ fault. fault ≡ Untaken.NoMemory };
+
+    fn from(_: NoMemory) -> Untaken {
+        Untaken::NoMemory
+    }
+}
+
+impl Untaken {
+    /// Why the stream is not swept.
+    pub(crate) fn unswept(self) -> Unswept
+        ensures { result ≢ Unswept.ReadFault }
+    {
+        match self {
+            Untaken::Unfit => Unswept::Unfit,
+            Untaken::NoMemory => Unswept::NoMemory,
         }
     }
 }

@@ -1,11 +1,12 @@
 //! Hands on the lines of a source in pieces, so that its text is never held.
-ghost use Rattle.std.specs.Prelude.{◌≡◌, ◌<◌, ◌++◌, ℕ, List, [], IfOk, OnOk, length};
+ghost use Rattle.std.specs.Prelude.{◌≡◌, ◌≢◌, ◌<◌, ◌++◌, ℕ, List, [], Err, IfOk, IsErrOf, OnOk, length};
 ghost use Rattle.std.specs.Io.KnownBytes.{Consumes, IsAtEnd};
+ghost use Rattle.kc_io.specs.Causes.{Rose};
 ghost use Rattle.kc_text.specs.Lines.{EndsLine};
 ghost use Rattle.kc_text.specs.declared.limits.TheConstants.Limits.{GRAPH};
 ghost use Rattle.kc_claims.specs.Feeding.{HasFed, IsFedWith};
 
-use crate::fault::Unswept;
+use crate::fault::{Unswept, Untaken};
 use kc_io::source::Source;
 use kc_stream::ended_len;
 use kc_text::Limits;
@@ -20,7 +21,7 @@ pub(crate) trait TakesLines {
     ghost taken: { Self → Self → List ℕ → Type 0 };
 
     /// Takes more bytes, where those before end with a line. After an error it is of no more use.
-    fn take_lines(&mut self, lines: &[u8]) -> Result<(), Unswept>
+    fn take_lines(&mut self, lines: &[u8]) -> Result<(), Untaken>
         requires { (start : Self) × (before : List ℕ) × taken start self.old before }
         ensures { OnOk result ((start : Self) (before : List ℕ) → EndsLine before → taken start self.old before
             → taken start self.new (before ++ lines.now)) };
@@ -31,7 +32,7 @@ fn take_whole<T: TakesLines>(
     carry: &mut Vec<u8>,
     whole: &[u8],
     taker: &mut T,
-) -> Result<(), Unswept>
+) -> Result<(), Untaken>
     requires ended { EndsLine whole.now }
     requires fed { (start : T) × (text : List ℕ) × HasFed T.taken start taker.old carry.old.items text }
     ensures fed { OnOk result ((start : T) (text : List ℕ) → HasFed T.taken start taker.old carry.old.items text
@@ -55,7 +56,7 @@ fn take_piece<T: TakesLines>(
     carry: &mut Vec<u8>,
     piece: &[u8],
     taker: &mut T,
-) -> Result<(), Unswept>
+) -> Result<(), Untaken>
     requires fed { (start : T) × (text : List ℕ) × HasFed T.taken start taker.old carry.old.items text }
     ensures fed { OnOk result ((start : T) (text : List ℕ) → HasFed T.taken start taker.old carry.old.items text
         → HasFed T.taken start taker.new carry.new.items (text ++ piece.now)) }
@@ -79,10 +80,29 @@ fn feed_next<S: Source, T: TakesLines>(
         × ((start : T) (text : List ℕ) → HasFed T.taken start taker.old carry.old.items text
         → HasFed T.taken start taker.new carry.new.items (text ++ given))) }
     ensures ended { IfOk result (λ n. n ≡ 0 → IsAtEnd (S.left source.new)) }
+    ensures failed { IsErrOf result Unswept.ReadFault → Rose (S.faults source.old) (S.faults source.new) }
+    ensures faultless { result ≢ Err Unswept.ReadFault → S.faults source.new ≡ S.faults source.old }
 {
-    let n = source.read(room)?;
-    take_piece(carry, &room[..n], taker)?;
-    Ok(n)
+    let Ok(n) = source.read(room) else {
+        return Err(Unswept::ReadFault);
+    };
+    match take_piece(carry, &room[..n], taker) {
+        Ok(()) => Ok(n),
+        Err(fault) => Err(fault.unswept()),
+    }
+}
+
+/// Hands on what is carried at the end of the source.
+fn take_last<T: TakesLines>(carry: &[u8], taker: &mut T) -> Result<(), Unswept>
+    requires { (start : T) × (before : List ℕ) × T.taken start taker.old before }
+    ensures taken { OnOk result ((start : T) (before : List ℕ) → EndsLine before → T.taken start taker.old before
+        → T.taken start taker.new (before ++ carry.now)) }
+    ensures unread { result ≢ Err Unswept.ReadFault }
+{
+    match taker.take_lines(carry) {
+        Ok(()) => Ok(()),
+        Err(fault) => Err(fault.unswept()),
+    }
 }
 
 /// Hands on all lines of a source, in pieces that fill the room or less.
@@ -96,6 +116,8 @@ fn feed_pieces<S: Source, T: TakesLines>(
     requires none { carry.old.items ≡ [] }
     requires fresh { T.taken taker.old taker.old [] }
     ensures fed { OnOk result (IsFedWith T.taken taker.old taker.new (S.left source.old) GRAPH.bytes) }
+    ensures failed { IsErrOf result Unswept.ReadFault → Rose (S.faults source.old) (S.faults source.new) }
+    ensures faultless { result ≢ Err Unswept.ReadFault → S.faults source.new ≡ S.faults source.old }
 {
     let mut left = Limits::GRAPH.bytes;
     loop {
@@ -104,7 +126,7 @@ fn feed_pieces<S: Source, T: TakesLines>(
             return Err(Unswept::Unfit);
         }
         if n == 0 {
-            taker.take_lines(carry)?;
+            take_last(carry, taker)?;
             return Ok(());
         }
         left -= n;
@@ -118,7 +140,9 @@ pub(crate) fn feed_all<S: Source, T: TakesLines>(
     taker: &mut T,
 ) -> Result<(), Unswept>
     requires { T.taken taker.old taker.old [] }
-    ensures { OnOk result (IsFedWith T.taken taker.old taker.new (S.left source.old) GRAPH.bytes) }
+    ensures fed { OnOk result (IsFedWith T.taken taker.old taker.new (S.left source.old) GRAPH.bytes) }
+    ensures failed { IsErrOf result Unswept.ReadFault → Rose (S.faults source.old) (S.faults source.new) }
+    ensures faultless { result ≢ Err Unswept.ReadFault → S.faults source.new ≡ S.faults source.old }
 {
     let mut room = vec![in alloc; 0u8; PIECE_BYTES]?;
     let mut carry = Vec::new(alloc);

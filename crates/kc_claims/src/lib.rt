@@ -6,12 +6,14 @@
 //! lines claim, and `specs/Certificates.antt` when claims are a certificate and what the first fault is.
 //!
 //! Claims that are a certificate tell the core numbers (Seidman 1983), whatever their ranks. The laws below have no code. [`check_stream`]
-//! tells the same of a graph whose edges come in ascending order from a source, and makes no graph.
+//! tells the same of a graph whose edges come in ascending order from a source, and makes no graph. [`check_ascending`] insists on that order,
+//! and tells the first line that breaks it (`specs/LineFaults.antt`).
 //!
 //! The crate stands on `kc_text` for lines, fields and numbers, on `kc_flat` and `kc_graph` for graphs, on `kc_tally` for keys and counts, on
 //! `kc_io` for sources, and on `kc_stream` for where the last line of a piece ends.
 #![tactic(auto)]
 
+mod ascending;
 mod checking;
 mod claim;
 mod claim_line;
@@ -19,6 +21,8 @@ mod counting;
 mod edge_line;
 mod fault;
 mod feeding;
+mod insisting;
+mod looking;
 mod places;
 mod reading;
 mod stream;
@@ -32,9 +36,10 @@ ghost use Rattle.kc_claims.specs.Certificates.{AreCertificate, IsFirstFault};
 ghost use Rattle.kc_claims.specs.declared.claim.Claim.{Claim};
 ghost use Rattle.kc_claims.specs.declared.fault.ClaimFault.{ClaimFault};
 
+pub use ascending::check_ascending;
 pub use checking::check_claims;
 pub use claim::Claim;
-pub use fault::{CheckFault, ClaimFault, TextFault, Unswept};
+pub use fault::{CheckFault, ClaimFault, FaultyLine, LineFault, StreamFault, TextFault, Unswept};
 pub use reading::claims_of;
 pub use stream::check_stream;
 

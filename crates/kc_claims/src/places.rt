@@ -3,6 +3,7 @@ ghost use Rattle.std.specs.Prelude.{◌≡◌, ◌<◌, ◌^◌, IfOk, IfSome, f
 ghost use Rattle.std.specs.List.Sorted.{IsStrictlyIncreasing};
 ghost use Rattle.kc_lists.specs.Lists.{member};
 ghost use Rattle.kc_graph.specs.Peeling.{at};
+ghost use Rattle.kc_claims.specs.Places.{ArePlaces, IsRow};
 
 use crate::taking::vertex_of;
 use kc_graph::NoMemory;
@@ -14,7 +15,7 @@ const IDS_A_RANGE: usize = 8;
 /// How many ids are looked at before they are searched.
 const MOST_STEPS: usize = 32;
 
-/// Where an id may stand among ids. No clause says so: where it doesn't stand there it is searched.
+/// Where an id stands among ids, or may stand: where it doesn't stand in its range it is searched.
 #[derive(Drop)]
 pub(crate) enum Places {
     /// The ids are numbers in a row, from this one on.
@@ -72,51 +73,95 @@ fn near(ids: &[u32], from: usize, id: u32) -> Option<usize>
     None
 }
 
+/// The first of ids that are numbers in a row.
+fn row_of(ids: &[u32]) -> Option<u32>
+    requires { IsStrictlyIncreasing ids.now }
+    ensures { IfSome result (λ first. IsRow ids.now first) }
+{
+    if ids.is_empty() {
+        return None;
+    }
+    let first = ids[0];
+    let greatest = ids[ids.len() - 1];
+    if greatest.saturating_sub(first) as usize + 1 != ids.len() {
+        return None;
+    }
+    Some(first)
+}
+
+/// The place of an id among numbers in a row, if it is one of these.
+fn place_in_row(ids: &[u32], first: u32, id: u32) -> Option<u32>
+    requires { IsRow ids.now first }
+    ensures found { IfSome result (λ v. (v < length ids.now) × (at ids.now v ≡ id)) }
+    ensures none { is_none result ≡ true → member id ids.now ≡ false }
+{
+    if id < first {
+        return None;
+    }
+    let v = id - first;
+    if v as usize >= ids.len() {
+        return None;
+    }
+    Some(v)
+}
+
+/// The place of an id, if it is one of these. It is looked for from a place on, and then searched.
+fn place_from(ids: &[u32], from: usize, id: u32) -> Option<u32>
+    requires ascending { IsStrictlyIncreasing ids.now }
+    requires few { length ids.now < 2 ^ 32 }
+    ensures found { IfSome result (λ v. (v < length ids.now) × (at ids.now v ≡ id)) }
+    ensures none { is_none result ≡ true → member id ids.now ≡ false }
+{
+    if let Some(v) = near(ids, from, id) {
+        return Some(v as u32);
+    }
+    match vertex_of(ids, id) {
+        Some(v) => Some(v as u32),
+        None => None,
+    }
+}
+
+/// The first place of a range.
+fn start_of(firsts: &[u32], range: usize) -> usize {
+    if range < firsts.len() {
+        firsts[range] as usize
+    } else {
+        0
+    }
+}
+
 impl Places {
     /// The places of these ids.
     pub(crate) fn new(alloc: Global, ids: &[u32]) -> Result<Places, NoMemory>
-        requires { length ids.now < 2 ^ 32 }
+        requires ascending { IsStrictlyIncreasing ids.now }
+        requires few { length ids.now < 2 ^ 32 }
+        ensures { IfOk result (ArePlaces ids.now) }
     {
-        let (first, greatest) = match (ids.first(), ids.last()) {
-            (Some(first), Some(greatest)) => (*first, *greatest),
-            _ => (0, 0),
-        };
-        if greatest.saturating_sub(first) as usize + 1 == ids.len() {
+        if let Some(first) = row_of(ids) {
             return Ok(Places::Row(first));
         }
+        let greatest = match ids.last() {
+            Some(greatest) => *greatest,
+            None => 0,
+        };
         let bits = range_bits(greatest, ids.len());
         let firsts = first_places(alloc, ids, bits, range_of(greatest, bits).saturating_add(1))?;
         Ok(Places::Ranges(bits, firsts))
-    }
-
-    /// From where on an id is looked for.
-    fn from(&self, id: u32) -> usize {
-        match self {
-            Places::Row(first) => id.saturating_sub(*first) as usize,
-            Places::Ranges(bits, firsts) => {
-                let range = range_of(id, *bits);
-                if range < firsts.len() {
-                    firsts[range] as usize
-                } else {
-                    0
-                }
-            }
-        }
     }
 
     /// The place of an id, if it is one of these.
     pub(crate) fn place(&self, ids: &[u32], id: u32) -> Option<u32>
         requires ascending { IsStrictlyIncreasing ids.now }
         requires few { length ids.now < 2 ^ 32 }
+        requires placed { ArePlaces ids.now self.now }
         ensures found { IfSome result (λ v. (v < length ids.now) × (at ids.now v ≡ id)) }
         ensures none { is_none result ≡ true → member id ids.now ≡ false }
     {
-        if let Some(v) = near(ids, self.from(id), id) {
-            return Some(v as u32);
-        }
-        match vertex_of(ids, id) {
-            Some(v) => Some(v as u32),
-            None => None,
+        match self {
+            Places::Row(first) => place_in_row(ids, *first, id),
+            Places::Ranges(bits, firsts) => {
+                place_from(ids, start_of(firsts, range_of(id, *bits)), id)
+            }
         }
     }
 }

@@ -1,10 +1,13 @@
 //! Whether claims are a certificate of the core numbers of a graph whose edges come as a stream.
-ghost use Rattle.std.specs.Prelude.{◌≡◌, ◌≤◌, ◌<◌, ◌^◌, ◌⊎◌, IsTrue, ℕ, None, true, IfOk, IfSome, is_none, length};
+ghost use Rattle.std.specs.Prelude.{◌≡◌, ◌≢◌, ◌≤◌, ◌<◌, ◌^◌, IsTrue, ℕ, Err, List, None, true, IfOk, IfSome, IsErrOf, is_none, length};
 ghost use Rattle.std.specs.List.Sorted.{IsStrictlyIncreasing};
 ghost use Rattle.kc_graph.specs.Peeling.{at};
+ghost use Rattle.kc_graph.specs.SimpleGraph.{SimpleGraph};
 ghost use Rattle.kc_claims.specs.Certificates.{AreCertificate, IsFirstFault, TellCoreNumbers, TellEach};
+ghost use Rattle.kc_claims.specs.Insisting.{HasCount};
 ghost use Rattle.kc_claims.specs.Streams.{HoldsOfStream};
 ghost use Rattle.kc_claims.specs.Sweeping.{Agrees, HasBegunFor, IsFirstMiscount, IsMiscountOf};
+ghost use Rattle.kc_claims.specs.declared.fault.ClaimFault.{ClaimFault};
 
 use crate::claim::Claim;
 use crate::fault::{CheckFault, ClaimFault, Unswept};
@@ -20,8 +23,19 @@ use std::alloc::Global;
 #[derive(Drop)]
 pub(crate) struct Begun {
     /// The vertices in the order of their claims.
+    pub(crate) order: Vec<u32>,
+    pub(crate) sweep: Sweep,
+}
+
+/// What claims tell the vertices of their ids, with ranks of 32 bits.
+#[derive(Drop)]
+struct ShortTaken {
+    /// The vertices in the order of their claims.
     order: Vec<u32>,
-    sweep: Sweep,
+    /// The number of each vertex.
+    core: Vec<u32>,
+    /// The rank of each vertex.
+    rank: Vec<u32>,
 }
 
 /// The ids of claims, ascending, each once.
@@ -37,58 +51,67 @@ fn claimed_ids(alloc: Global, claims: &[Claim]) -> Result<Vec<u32>, NoMemory>
     Ok(ids)
 }
 
-/// The ranks, where 32 bits hold them.
-fn short_ranks(alloc: Global, ranks: &[u64]) -> Result<Vec<u32>, Unswept>
-    ensures { IfOk result (λ short. short.items ≡ ranks.now) }
+/// The ranks, where 32 bits hold them. Else there is no memory for so many claims.
+fn short_ranks(alloc: Global, ranks: &[u64]) -> Result<Vec<u32>, CheckFault>
+    ensures short { IfOk result (λ short. short.items ≡ ranks.now) }
+    ensures unfaulty { (fault : ClaimFault) → result ≢ Err (CheckFault.Faulty fault) }
 {
     let mut short = Vec::with_capacity(alloc, ranks.len())?;
     for rank in ranks {
-        if *rank > u64::from(u32::MAX) {
-            return Err(Unswept::Unfit);
-        }
-        if short.push(*rank as u32).is_err() {
-            return Err(Unswept::NoMemory);
+        if *rank > u64::from(u32::MAX) || short.push(*rank as u32).is_err() {
+            return Err(CheckFault::NoMemory);
         }
     }
     Ok(short)
 }
 
-/// What claims tell the vertices of their ids. They are unfit where they name an id twice.
-fn taken_of(alloc: Global, ids: &[u32], claims: &[Claim]) -> Result<Taken, Unswept>
+/// What claims tell the vertices of their ids, where they name each of these just once. What is no longer needed of it is let go here.
+fn taken_of(alloc: Global, ids: &[u32], claims: &[Claim]) -> Result<ShortTaken, CheckFault>
     requires ascending { IsStrictlyIncreasing ids.now }
     requires few { length ids.now < 2 ^ 32 }
-    ensures { IfOk result (λ taken. TellEach ids.now claims.now taken.order.items taken.core.items taken.rank.items) }
+    ensures told { IfOk result (λ taken. TellEach ids.now claims.now taken.order.items taken.core.items taken.rank.items) }
+    ensures faulty { (g : SimpleGraph) (fault : ClaimFault) → IsErrOf result (CheckFault.Faulty fault) → IsFirstFault ids.now g claims.now fault }
 {
-    match told_by(alloc, ids.len() as u32, ids, claims) {
-        Ok(taken) => Ok(taken),
-        Err(CheckFault::NoMemory) => Err(Unswept::NoMemory),
-        Err(CheckFault::Faulty(_)) => Err(Unswept::Unfit),
-    }
-}
-
-/// Begins a sweep for what claims tell the vertices of their ids.
-fn begin(alloc: Global, claims: &[Claim]) -> Result<Begun, Unswept>
-    ensures { IfOk result (HasBegunFor claims.now) }
-{
-    let ids = claimed_ids(alloc, claims)?;
-    if ids.len() > Limits::GRAPH.ids as usize {
-        return Err(Unswept::Unfit);
-    }
     let Taken {
         order,
         core,
         rank,
         ..
-    } = taken_of(alloc, &ids, claims)?;
+    } = told_by(alloc, ids.len() as u32, ids, claims)?;
     let rank = short_ranks(alloc, &rank)?;
+    Ok(ShortTaken { order, core, rank })
+}
+
+/// Begins a sweep for what claims tell the vertices of their ids. They are at fault where they name an id twice.
+pub(crate) fn begin(alloc: Global, claims: &[Claim]) -> Result<Begun, CheckFault>
+    ensures begun { IfOk result (HasBegunFor claims.now) }
+    ensures faulty { (fault : ClaimFault) → IsErrOf result (CheckFault.Faulty fault)
+        → (ids : List ℕ) × ((g : SimpleGraph) → IsFirstFault ids g claims.now fault) }
+{
+    let ids = claimed_ids(alloc, claims)?;
+    if ids.len() > Limits::GRAPH.ids as usize {
+        return Err(CheckFault::NoMemory);
+    }
+    let ShortTaken { order, core, rank } = taken_of(alloc, &ids, claims)?;
     let sweep = Sweep::new(alloc, ids, core, rank)?;
     Ok(Begun { order, sweep })
+}
+
+/// Begins a sweep. Claims that name an id twice are unfit.
+fn begun_for(alloc: Global, claims: &[Claim]) -> Result<Begun, Unswept>
+    ensures { IfOk result (HasBegunFor claims.now) }
+{
+    match begin(alloc, claims) {
+        Ok(begun) => Ok(begun),
+        Err(CheckFault::NoMemory) => Err(Unswept::NoMemory),
+        Err(CheckFault::Faulty(_)) => Err(Unswept::Unfit),
+    }
 }
 
 /// Whether each vertex has a later neighbour or a supporter, and so an edge.
 fn have_all_edges(later: &[u32], supporters: &[u32]) -> bool
     requires { length supporters.now ≡ length later.now }
-    ensures { IsTrue result → (v : ℕ) → v < length later.now → (0 < at later.now v) ⊎ (0 < at supporters.now v) }
+    ensures { IsTrue result → (v : ℕ) → v < length later.now → HasCount later.now supporters.now v }
 {
     for (v, count) in later.iter().enumerate() {
         if *count == 0 && supporters[v] == 0 {
@@ -114,7 +137,7 @@ fn miscount_of(claim: &Claim, later: u32, supporting: u32) -> Option<ClaimFault>
 }
 
 /// The first of the claims whose number is wrong by the counts of its vertex.
-fn first_miscount_of(
+pub(crate) fn first_miscount_of(
     order: &[u32],
     later: &[u32],
     supporters: &[u32],
@@ -135,7 +158,7 @@ fn first_miscount_of(
 }
 
 /// Whether claims are a certificate of the core numbers of the graph that the bytes of a source mean. The graph is not made: each of its
-/// edges is counted as it comes. So it takes 24 bytes a vertex and a buffer beside the claims, and 45 for a while before the first edge.
+/// edges is counted as it comes. So it takes 24 bytes a vertex and a buffer beside the claims, and 25 for a while before the first edge.
 ///
 /// Each edge is to have one line, the lesser id first, and each line is to be above the one before it, by its first id and then by its second.
 /// There may be comments. Where they are no certificate it gives the first fault, as `check_claims` does for the graph.
@@ -165,7 +188,7 @@ pub fn check_stream<S: Source>(
         → HoldsOfStream (λ ids g. AreCertificate ids g claims.now × TellCoreNumbers ids g claims.now) (S.left source.old)) }
     ensures faulty { IfOk result (λ found. IfSome found (λ fault. HoldsOfStream (λ ids g. IsFirstFault ids g claims.now fault) (S.left source.old))) }
 {
-    let Begun { order, mut sweep } = begin(alloc, claims)?;
+    let Begun { order, mut sweep } = begun_for(alloc, claims)?;
     feed_all(alloc, source, &mut sweep)?;
     if !have_all_edges(&sweep.later, &sweep.supporters) {
         return Err(Unswept::Unfit);

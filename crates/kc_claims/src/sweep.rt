@@ -6,10 +6,11 @@ ghost use Rattle.kc_graph.specs.declared.bulk.Edge.{Edge};
 ghost use Rattle.kc_text.specs.Forms.{all_said};
 ghost use Rattle.kc_text.specs.Lines.{EndsLine};
 ghost use Rattle.kc_tally.specs.Lists.{last_edge};
+ghost use Rattle.kc_claims.specs.Places.{ArePlaces};
 ghost use Rattle.kc_claims.specs.Sweeping.{AreToldBy, HasCounted, HasSwept};
 
 use crate::edge_line::next_line;
-use crate::fault::Unswept;
+use crate::fault::Untaken;
 use crate::feeding::TakesLines;
 use crate::places::Places;
 use kc_graph::{Edge, NoMemory};
@@ -21,8 +22,8 @@ use std::alloc::Global;
 #[derive(Drop)]
 pub(crate) struct Sweep {
     /// Ascending: the vertex `v` stands for `ids[v]`.
-    ids: Vec<u32>,
-    places: Places,
+    pub(crate) ids: Vec<u32>,
+    pub(crate) places: Places,
     core: Vec<u32>,
     rank: Vec<u32>,
     /// How many later neighbours each vertex has.
@@ -56,30 +57,32 @@ fn last_edge(before: Option<Edge>, edges: &[Edge]) -> Option<Edge>
 }
 
 /// Puts the edge that a line tells behind others, between the places of its ids. A line that tells something else, or another id, is unfit.
-fn put(ids: &[u32], places: &Places, line: TextLine, edges: &mut Vec<Edge>) -> Result<(), Unswept>
+fn put(ids: &[u32], places: &Places, line: TextLine, edges: &mut Vec<Edge>) -> Result<(), Untaken>
     requires ascending { IsStrictlyIncreasing ids.now }
     requires few { length ids.now < 2 ^ 32 }
+    requires placed { ArePlaces ids.now places.now }
     ensures { OnOk result ((told : List Edge) × AreToldBy ids.now (line ∷ []) told × (edges.new.items ≡ edges.old.items ++ told)) }
 {
     match line {
         TextLine::Nothing => Ok(()),
         TextLine::Edge(a, b) => {
             let (Some(u), Some(v)) = (places.place(ids, a), places.place(ids, b)) else {
-                return Err(Unswept::Unfit);
+                return Err(Untaken::Unfit);
             };
             if edges.push(Edge { u, v }).is_err() {
-                return Err(Unswept::NoMemory);
+                return Err(Untaken::NoMemory);
             }
             Ok(())
         }
-        _ => Err(Unswept::Unfit),
+        _ => Err(Untaken::Unfit),
     }
 }
 
 /// Puts the edges that lines tell behind others.
-fn put_all(ids: &[u32], places: &Places, lines: &[u8], edges: &mut Vec<Edge>) -> Result<(), Unswept>
+fn put_all(ids: &[u32], places: &Places, lines: &[u8], edges: &mut Vec<Edge>) -> Result<(), Untaken>
     requires ascending { IsStrictlyIncreasing ids.now }
     requires few { length ids.now < 2 ^ 32 }
+    requires placed { ArePlaces ids.now places.now }
     ensures { OnOk result ((told : List Edge) × AreToldBy ids.now (all_said lines.now) told × (edges.new.items ≡ edges.old.items ++ told)) }
 {
     let mut rest = lines;
@@ -125,13 +128,13 @@ impl Sweep {
     }
 
     /// Counts the edges that were put. They are unfit where they don't go on ascending.
-    fn count_put(&mut self) -> Result<(), Unswept>
+    fn count_put(&mut self) -> Result<(), Untaken>
         requires { (start : Sweep) × (before : List Edge) × HasCounted start self.old before }
         ensures { OnOk result ((start : Sweep) (before : List Edge) → HasCounted start self.old before
             → HasCounted start self.new (before ++ self.old.edges.items)) }
     {
         if Limits::GRAPH.edge_lines - self.count < self.edges.len() {
-            return Err(Unswept::Unfit);
+            return Err(Untaken::Unfit);
         }
         let Ok(()) = count(
             &self.core,
@@ -141,7 +144,7 @@ impl Sweep {
             &mut self.later,
             &mut self.supporters,
         ) else {
-            return Err(Unswept::Unfit);
+            return Err(Untaken::Unfit);
         };
         self.count += self.edges.len();
         self.last = last_edge(self.last, &self.edges);
@@ -152,7 +155,7 @@ impl Sweep {
 impl TakesLines for Sweep {
     ghost taken = { HasSwept };
 
-    fn take_lines(&mut self, lines: &[u8]) -> Result<(), Unswept>
+    fn take_lines(&mut self, lines: &[u8]) -> Result<(), Untaken>
         requires { (start : Sweep) × (before : List ℕ) × HasSwept start self.old before }
         ensures { OnOk result ((start : Sweep) (before : List ℕ) → EndsLine before → HasSwept start self.old before
             → HasSwept start self.new (before ++ lines.now)) }

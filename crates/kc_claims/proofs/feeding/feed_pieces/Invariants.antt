@@ -10,6 +10,7 @@ invariant-loop-n g l = record {
   fed : (text : List ℕ) × Consumes (g.S.Source.left l.fn.source) (g.S.Source.left l.source) text
       × HasFed g.T.TakesLines.taken l.fn.taker l.taker l.carry.items text × (l.left + length text ≡ GRAPH.bytes);
   room : 0 < length l.room;
+  faultless : g.S.Source.faults l.source ≡ g.S.Source.faults l.fn.source;
 }
 
 abbrev pub decreases-loop-n : goal.decreases-loop-n

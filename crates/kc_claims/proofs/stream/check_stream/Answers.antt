@@ -10,7 +10,7 @@ use Rattle.kc_claims.proofs.stream.check_stream.Goals as goal
 
 pub have_all_edges-requires : goal.have_all_edges-requires
 have_all_edges-requires g c =
-    let tally = c.in_ok-feed_all.ensures.took.counted.tally in
+    let tally = c.in_ok-feed_all.ensures.fed.took.counted.tally in
     omega (arith, ap length c.deref.ensures.value, ap length c.deref-2.ensures.value, tally.later_each, tally.supporters_each)
 
 pub first_miscount_of-requires-clause-one_each : goal.first_miscount_of-requires-clause-one_each
@@ -18,7 +18,7 @@ first_miscount_of-requires-clause-one_each g c = omega (arith, ap length c.deref
 
 pub first_miscount_of-requires-clause-vertices : goal.first_miscount_of-requires-clause-vertices
 first_miscount_of-requires-clause-vertices g c = λ i l.
-    let counted = c.in_ok-feed_all.ensures.took.counted in
+    let counted = c.in_ok-feed_all.ensures.fed.took.counted in
     let vertex = c.in_ok-order.ensures.told.all.vertices i l in
     let place = ap (λ (xs : List ℕ). at xs i) c.deref-3.ensures.value in
     let ids = ap (λ v. length v.items) counted.ids in (
@@ -29,7 +29,7 @@ first_miscount_of-requires-clause-vertices g c = λ i l.
 pub returns-clause-certified : goal.returns-clause-certified
 returns-clause-certified g c = λ none.
     let now = c.feed_all.new.taker in
-    certified-stream c.args.claims.now _ c.in_ok-order.ensures now _ c.in_ok-feed_all.ensures
+    certified-stream c.args.claims.now _ c.in_ok-order.ensures now _ c.in_ok-feed_all.ensures.fed
     (subst (λ (s : List ℕ). (v : ℕ) → v < length now.later.items → (0 < at now.later.items v) ⊎ (0 < at s v)) c.deref-2.ensures.value
     (subst (λ (l : List ℕ). (v : ℕ) → v < length l → (0 < at l v) ⊎ (0 < at c.deref-2.result.now v)) c.deref.ensures.value
     (c.have_all_edges.ensures c.if-not-have_all_edges.false)))
@@ -46,7 +46,7 @@ returns-clause-faulty g c =
     (λ (fault : ClaimFault). HoldsOfStream (λ ids h. IsFirstFault ids h c.args.claims.now fault) (g.S.Source.left c.args.source.now))
     c.first_miscount_of.result
     (λ fault first.
-    faulty-stream c.args.claims.now _ c.in_ok-order.ensures now _ c.in_ok-feed_all.ensures
+    faulty-stream c.args.claims.now _ c.in_ok-order.ensures now _ c.in_ok-feed_all.ensures.fed
     (subst (λ (s : List ℕ). (v : ℕ) → v < length now.later.items → (0 < at now.later.items v) ⊎ (0 < at s v)) c.deref-2.ensures.value
     (subst (λ (l : List ℕ). (v : ℕ) → v < length l → (0 < at l v) ⊎ (0 < at c.deref-2.result.now v)) c.deref.ensures.value
     (c.have_all_edges.ensures c.if-not-have_all_edges.false)))

@@ -14,7 +14,7 @@ returns c = λ start before h.
     (omega (arith, old.later.ok.0, c.count.auto.later, ap length c.deref_mut.ensures.value)) in
     let supporters = list-written c.count.new.supporters old.supporters.items old.supporters.len
     (omega (arith, old.supporters.ok.0, c.count.auto.supporters, ap length c.deref_mut-2.ensures.value)) in
-    HasCounted-more start old _ before old.edges.items h refl refl refl
+    HasCounted-more start old _ before old.edges.items h refl refl refl refl
     (c.last_edge-self.ensures ∙ ap (last_edge old.last) c.deref-4.ensures.value)
     (omega (arith, c.len-2.ensures, old.edges.ok.0)) (omega (arith, c.len-2.ensures, c.len.ensures, old.edges.ok.0, h.within, c.if-self-len.false))
     (subst (λ (xs : List ℕ). first_fault (length xs) 0 old.last old.edges.items ≡ None) c.deref.ensures.value

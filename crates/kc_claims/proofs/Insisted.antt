@@ -1,0 +1,137 @@
+-- How a stream is looked through that is to ascend, and what is found then.
+use Rattle.std.proofs.Common.{◌≡◌, ◌<◌, ◌+◌, ◌++◌, ◌∙◌, Global, ℕ, List, None, Option, Some, Vec, ap, arith, length, length-append, subst, sym}
+use Rattle.kc_graph.specs.Peeling.{at}
+use Rattle.kc_text.specs.Forms.{all_said}
+use Rattle.kc_text.specs.Lines.{EndsLine}
+use Rattle.kc_text.specs.declared.limits.TheConstants.Limits.{GRAPH}
+use Rattle.kc_text.specs.declared.line.TextLine.{TextLine}
+use Rattle.kc_text.proofs.SaidAppend.{said-append}
+use Rattle.kc_claims.specs.Feeding.{IsFedWith}
+use Rattle.kc_claims.specs.Certificates.{AreCertificate, TellCoreNumbers}
+use Rattle.kc_claims.specs.Insisting.{HasCount, HasFollowed, HasInsisted, HasInsistedFor, IsCountFault}
+use Rattle.kc_claims.specs.LineFaults.{HasFaultyLine, first_line_fault, last_pair}
+use Rattle.kc_claims.specs.Streams.{HoldsOfStream, IsFaultOfStream}
+use Rattle.kc_claims.specs.Sweeping.{Agrees, HasSwept, IsFirstMiscount}
+use Rattle.kc_claims.specs.declared.claim.Claim.{Claim}
+use Rattle.kc_claims.specs.declared.fault.ClaimFault.{ClaimFault}
+use Rattle.kc_claims.specs.declared.fault.ClaimFault.TheVariants.{Unknown, Repeated, Missing, ManyLater, FewSupporters}
+use Rattle.kc_claims.specs.declared.fault.FaultyLine.{FaultyLine}
+use Rattle.kc_claims.specs.declared.insisting.Insisting.{Insisting}
+use Rattle.kc_claims.specs.declared.sweep.Sweep.{Sweep}
+use Rattle.kc_claims.proofs.LineFaulting.{clean-append, faulty-append, last_pair-append}
+use Rattle.kc_claims.proofs.Streamed.{certified-stream, faulty-ids, met-claims, unknown-stream}
+
+-- once a line is wrong, it stays the first
+pub HasInsisted-stays : (start old : Insisting) (before lines : List ℕ) (f : FaultyLine) → EndsLine before → HasInsisted start old before
+    → old.fault ≡ Some f → HasInsisted start old (before ++ lines)
+HasInsisted-stays start old before lines f ended h is = record {
+  first =
+      is
+      ∙ sym (ap (first_line_fault start.sweep.ids.items 0 None) (said-append before lines ended)
+      ∙ faulty-append start.sweep.ids.items 0 None (all_said before) (all_said lines) f (sym h.first ∙ is));
+  followed = λ none. absurd (let e : Some f ≡ None = sym is ∙ none in cc);
+}
+
+module _ (start old now : Insisting) (before lines : List ℕ) (ended : EndsLine before) (h : HasInsisted start old before) (clean : old.fault ≡ None) where
+  -- the lines so far were followed
+  f : HasFollowed start old before
+  f = h.followed clean
+
+  -- what is first wrong in all lines is so in those that came
+  pub first-of-all : first_line_fault start.sweep.ids.items 0 None (all_said (before ++ lines))
+      ≡ first_line_fault old.sweep.ids.items old.lines old.last (all_said lines)
+  first-of-all =
+      let ids : List ℕ = start.sweep.ids.items in
+      let said : List TextLine = all_said lines in
+      ap (first_line_fault ids 0 None) (said-append before lines ended)
+      ∙ clean-append ids 0 None (all_said before) said (sym h.first ∙ clean)
+      ∙ ap (λ n. first_line_fault ids n (last_pair None (all_said before)) said)
+      (let e : 0 + length (all_said before) ≡ old.lines = omega (arith, f.lines) in e)
+      ∙ ap (λ last. first_line_fault ids old.lines last said) (sym f.last)
+      ∙ ap (λ (v : Vec ℕ Global). first_line_fault v.items old.lines old.last said) (sym f.swept.counted.ids)
+
+  -- a line that came is wrong
+  pub HasInsisted-faulty : (wrong : FaultyLine) → first_line_fault old.sweep.ids.items old.lines old.last (all_said lines) ≡ Some wrong
+      → now.fault ≡ Some wrong → HasInsisted start now (before ++ lines)
+  HasInsisted-faulty wrong is told = record {
+    first = told ∙ sym (first-of-all ∙ is);
+    followed = λ none. absurd (let e : Some wrong ≡ None = sym told ∙ none in cc);
+  }
+
+  -- none of the lines that came is wrong, and all their edges were counted
+  pub HasInsisted-followed : first_line_fault old.sweep.ids.items old.lines old.last (all_said lines) ≡ None → now.fault ≡ None
+      → HasSwept start.sweep now.sweep (before ++ lines) → now.lines ≡ old.lines + length (all_said lines)
+      → now.last ≡ last_pair old.last (all_said lines) → HasInsisted start now (before ++ lines)
+  HasInsisted-followed none told swept count last = record {
+    first = told ∙ sym (first-of-all ∙ none);
+    followed = λ _. record {
+      swept = swept;
+      lines = omega (arith, count, f.lines, ap length (said-append before lines ended), length-append (all_said before) (all_said lines));
+      last =
+          last ∙ ap (λ p. last_pair p (all_said lines)) f.last ∙ sym (last_pair-append None (all_said before) (all_said lines))
+          ∙ sym (ap (last_pair None) (said-append before lines ended));
+    };
+  }
+
+-- a claim that does not agree is what the counts show to be wrong
+pub IsCountFault-miscount : (claims : List Claim) (order later supporters : List ℕ) (fault : ClaimFault)
+    → IsFirstMiscount claims order later supporters fault → IsCountFault claims order later supporters fault
+IsCountFault-miscount claims order later supporters (Unknown claim) first = absurd first.here
+IsCountFault-miscount claims order later supporters (Repeated claim) first = first.here
+IsCountFault-miscount claims order later supporters (Missing id) first = first.here
+IsCountFault-miscount claims order later supporters (ManyLater claim count) first = first
+IsCountFault-miscount claims order later supporters (FewSupporters claim count) first = first
+
+module _ (claims : List Claim) (order : List ℕ) (now : Insisting) (known : Option (List ℕ)) (h : HasInsistedFor claims order now known) where
+  -- where no line is wrong, all edges of the stream were counted
+  pub swept-all : now.fault ≡ None → IsFedWith HasSwept h.begun.sweep now.sweep known GRAPH.bytes
+  swept-all none = record {
+    text = h.fed.text;
+    read = h.fed.read;
+    few = h.fed.few;
+    took = subst (λ (s : Sweep). HasSwept s now.sweep h.fed.text) h.same_sweep (h.fed.took.followed none).swept;
+  }
+
+  -- the first line that is wrong is one of a stream for the claims
+  pub HasFaultyLine-kept : (wrong : FaultyLine) → now.fault ≡ Some wrong → HasFaultyLine claims known wrong
+  HasFaultyLine-kept wrong is = record {
+    text = h.fed.text;
+    read = h.fed.read;
+    ids = h.begun.sweep.ids.items;
+    order = h.begun.order.items;
+    core = h.begun.sweep.core.items;
+    rank = h.begun.sweep.rank.items;
+    ascending = h.begun_for.swept.counted.ascending;
+    told = h.begun_for.told;
+    first =
+        ap (λ (s : Sweep). first_line_fault s.ids.items 0 None (all_said h.fed.text)) (sym h.same_sweep) ∙ sym h.fed.took.first ∙ is;
+  }
+
+  module _ (none : now.fault ≡ None) (later supporters : List ℕ) (l : later ≡ now.sweep.later.items) (s : supporters ≡ now.sweep.supporters.items) where
+    -- what holds of these lists holds of those that are kept
+    kept : (P : List ℕ → List ℕ → List ℕ → Type 0) → P order later supporters → P h.begun.order.items now.sweep.later.items now.sweep.supporters.items
+    kept P p =
+        subst (λ (xs : List ℕ). P xs now.sweep.later.items now.sweep.supporters.items) h.same_order
+        (subst (λ (xs : List ℕ). P order now.sweep.later.items xs) s (subst (λ (xs : List ℕ). P order xs supporters) l p))
+
+    -- the claims are a certificate
+    pub certified-ascending : ((i : ℕ) → i < length claims → Agrees claims order later supporters i)
+        → ((i : ℕ) → i < length claims → HasCount later supporters (at order i))
+        → HoldsOfStream (λ ids g. AreCertificate ids g claims × TellCoreNumbers ids g claims) known
+    certified-ascending agree counted =
+        certified-stream claims h.begun h.begun_for now.sweep known (swept-all none)
+        (met-claims claims h.begun h.begun_for now.sweep known (swept-all none)
+        (kept (λ o l s. (i : ℕ) → i < length claims → HasCount l s (at o i)) counted))
+        (kept (λ o l s. (i : ℕ) → i < length claims → Agrees claims o l s i) agree)
+
+    -- they are none
+    pub faulty-ascending : (fault : ClaimFault) → IsCountFault claims order later supporters fault → IsFaultOfStream claims fault known
+    faulty-ascending fault f = go fault (kept (λ o l s. IsCountFault claims o l s fault) f)
+      where
+        go : (fault : ClaimFault) → IsCountFault claims h.begun.order.items now.sweep.later.items now.sweep.supporters.items fault
+            → IsFaultOfStream claims fault known
+        go (Unknown claim) (agree, first) = unknown-stream claims h.begun h.begun_for now.sweep known (swept-all none) claim agree first
+        go (Repeated claim) first = absurd first
+        go (Missing id) first = absurd first
+        go (ManyLater claim count) first = faulty-ids claims h.begun h.begun_for now.sweep known (swept-all none) (ManyLater claim count) first
+        go (FewSupporters claim count) first = faulty-ids claims h.begun h.begun_for now.sweep known (swept-all none) (FewSupporters claim count) first
