@@ -187,6 +187,50 @@ def is_checked(program, neighbours, graph, lines, certificate):
     return (status, answer) == (1, f"no\t{fault[0]}\n") and told.startswith(start + fault[1])
 
 
+def wrong_line_of(text, told):
+    """The number of the first line of a stream that does not ascend or is no edge, or else the id of the first line that names one that is not told."""
+    last = (-1, -1)
+    for number, line in enumerate(text.split("\n"), 1):
+        fields = line.split()
+        if not fields or fields[0][0] in "#%":
+            continue
+        edge = tuple(map(int, fields)) if len(fields) == 2 else ()
+        if not edge or edge[0] >= edge[1] or edge <= last:
+            return number, None
+        for v in edge:
+            if v not in told:
+                return None, v
+        last = edge
+    return None, None
+
+
+def stream_fault_of(neighbours, claims):
+    """The id that is told of claims for a stream, each of whose ids is told, or nothing where they are a certificate."""
+    told = {v: (number, rank[0] if rank else place, v) for place, (_, v, number, *rank) in enumerate(claims)}
+    for _, v, number, *_ in claims:
+        beside = neighbours.get(v, ())
+        if sum(told[w] > told[v] for w in beside) > number or sum(told[w][0] >= number for w in beside) < number:
+            return v
+    return next((v for _, v, *_ in claims if v not in neighbours), None)
+
+
+def is_stream_checked(program, lines, certificate, text, words):
+    """Whether the check of these lines for a stream ends as the model says. The stream is on standard input, or in the file that the words name."""
+    certificate.write_text("".join(line + "\n" for line in lines))
+    refused, claims = claims_of(lines)
+    status, answer, told = run(program, ("check", "--stream", str(certificate), *words), "" if words else text)
+    if refused:
+        return (status, answer) == (3, "") and told.startswith(f"cores: {certificate}: line {refused}: ")
+    ids = [v for _, v, *_ in claims]
+    twice = next((v for place, v in enumerate(ids) if v in ids[:place]), None)
+    number, missing = wrong_line_of(text, set(ids))
+    if twice is None and number is not None:
+        place = f"{words[0]}: line {number}: " if words else f"line {number}: "
+        return (status, answer) == (3, "") and told.startswith("cores: " + place)
+    fault = twice if twice is not None else missing if missing is not None else stream_fault_of(graph_of(text), claims)
+    return (status, answer) == ((0, "yes\n") if fault is None else (1, f"no\t{fault}\n")) and (told == "") == (fault is None)
+
+
 def ascending_of(draw, neighbours):
     """The edges of a graph, each once and with its lesser id first, in ascending order; or nearly so, or with a comment among them."""
     lines = [f"{u}{draw.choice((' ', chr(9)))}{v}" for u in neighbours for v in sorted(neighbours[u]) if u < v]
@@ -228,6 +272,8 @@ def wrong_checks(program, draw, text, place):
             for found in right + tries:
                 if not is_checked(program, neighbours, graph, found, place / "certificate"):
                     yield "check", repr(found), *graph[1]
+                if graph[1] and graph[0] == "" and not is_stream_checked(program, found, place / "certificate", named, draw.choice(((), graph[1]))):
+                    yield "check --stream", repr(found), repr(named)
 
 
 def is_quiet(program):
@@ -334,7 +380,7 @@ def main():
     if not is_quiet(chosen.cores):
         wrong += 1
         print("cores numbers: a reader that goes away is told as a fault")
-    print(f"{chosen.cases} cases of seed {chosen.seed}, eight commands, 38 checks and three refusals each: {wrong or 'none'} wrong")
+    print(f"{chosen.cases} cases of seed {chosen.seed}, eight commands, 54 checks and three refusals each: {wrong or 'none'} wrong")
     sys.exit(1 if wrong else 0)
 
 

@@ -7,7 +7,8 @@ use Rattle.kc_io.specs.declared.sink.Sink as sinks
 use Rattle.kc_io.specs.declared.source.Source as sources
 use Rattle.kc_claims.specs.declared.fault.ClaimFault.{ClaimFault}
 use Rattle.kc_wire.specs.declared.wire.Wire as wires
-use Rattle.kc_cores.specs.CheckEnded.{CheckEnded, EndsAsAsked, IsRight, IsWrong}
+use Rattle.kc_cores.specs.Asked.{EndsAsAsked}
+use Rattle.kc_cores.specs.CheckEnded.{CheckEnded, IsRight, IsWrong}
 use Rattle.kc_cores.specs.CoresEnded.{CoresEnded}
 use Rattle.kc_cores.specs.Endings.{HasNoVerdict, HasSaid, NoClaimsAt, NoFileGraphAt, RefutedAt, RepliesTo, line_of}
 use Rattle.kc_cores.specs.Inputs.{known_bytes}
@@ -15,12 +16,14 @@ use Rattle.kc_cores.specs.Sentences.{no_memory_line, write_fault_line}
 use Rattle.kc_cores.specs.Verdicts.{no_line, yes_line}
 use Rattle.kc_watch.specs.declared.options.WatchOptions.{WatchOptions}
 use Rattle.kc_cores.specs.WatchEnded.{WatchEnded}
-use Rattle.kc_cores.specs.Wishes.{Asks, Checks, GraphText, Query, Watches, Wish}
+use Rattle.kc_cores.specs.StreamChecked.{StreamChecked}
+use Rattle.kc_cores.specs.Wishes.{Asks, Checks, ChecksStream, GraphText, Query, Watches, Wish}
 use Rattle.kc_cores.specs.declared.CoresStatus.{CoresStatus}
 use Rattle.kc_cores.specs.declared.CoresStatus.TheVariants as status
 use Rattle.kc_cores.specs.declared.ending.Ending.{Ending}
 use Rattle.kc_cores.specs.declared.words.Reply.{Reply}
 use Rattle.kc_cores.specs.declared.words.Reply.TheVariants as reply
+use Rattle.kc_cores.proofs.StreamChecking.{StreamChecked-nothing}
 use Rattle.kc_cores.proofs.Watched.{WatchEnded-nothing}
 
 module _ {I C O : Type 0} (source : sources.Ghosts I) (behind : I → List ℕ → Option (List ℕ)) (kept : sources.Ghosts C)
@@ -155,8 +158,9 @@ module _ {I C O : Type 0} (source : sources.Ghosts I) (behind : I → List ℕ �
         → EndsAsAsked source behind kept beside out gone wire wish end line i i' c c' o o' l l'
     EndsAsAsked-lines wish query end line i i' c c' o o' l l' is h same stays = record {
       check = λ n f e. absurd (cc);
+      stream = λ n f e. absurd (cc);
       watch = λ options e. absurd (cc);
-      other = λ _ _. (subst (λ (w : Wish). CoresEnded source behind out gone w end line i i' o o') (sym is) h, same, stays);
+      other = λ _ _ _. (subst (λ (w : Wish). CoresEnded source behind out gone w end line i i' o o') (sym is) h, same, stays);
     }
 
     -- a run that checks a certificate has ended as it should
@@ -171,8 +175,26 @@ module _ {I C O : Type 0} (source : sources.Ghosts I) (behind : I → List ℕ �
                 (subst (λ (x : GraphText). CheckEnded source behind kept beside out name x end line i i' c c' o o') q h),
             stays,
           );
+      stream = λ n f e. absurd (cc);
       watch = λ options e. absurd (cc);
-      other = λ none _. absurd (none name graph is);
+      other = λ none _ _. absurd (none name graph is);
+    }
+
+    -- a run that checks a certificate for a stream has ended as it should
+    pub EndsAsAsked-stream : (wish : Wish) (name : List ℕ) (file : Option (List ℕ)) (end : CoresStatus) (line : List ℕ) (i i' : I) (c c' : C) (o o' : O)
+        (l l' : L) → wish ≡ ChecksStream name file → StreamChecked source behind kept beside out name file end line i i' c c' o o' → l' ≡ l
+        → EndsAsAsked source behind kept beside out gone wire wish end line i i' c c' o o' l l'
+    EndsAsAsked-stream wish name file end line i i' c c' o o' l l' is h stays = record {
+      check = λ n f e. absurd (cc);
+      stream = λ n f e.
+          let p : name ≡ n = cc in
+          let q : file ≡ f = cc in (
+            subst (λ (x : List ℕ). StreamChecked source behind kept beside out x f end line i i' c c' o o') p
+                (subst (λ (x : Option (List ℕ)). StreamChecked source behind kept beside out name x end line i i' c c' o o') q h),
+            stays,
+          );
+      watch = λ options e. absurd (cc);
+      other = λ _ none _. absurd (none name file is);
     }
 
     -- a run that answers a stream has ended as it should
@@ -181,10 +203,11 @@ module _ {I C O : Type 0} (source : sources.Ghosts I) (behind : I → List ℕ �
         → EndsAsAsked source behind kept beside out gone wire wish end line i i' c c' o o' l l'
     EndsAsAsked-watch wish options end line i i' c c' o o' l l' is h one two three = record {
       check = λ n f e. absurd (cc);
+      stream = λ n f e. absurd (cc);
       watch = λ asked e.
           let p : options ≡ asked = cc in
           (subst (λ (x : WatchOptions). WatchEnded wire x end line l l') p h, one, two, three);
-      other = λ _ none. absurd (none options is);
+      other = λ _ _ none. absurd (none options is);
     }
 
     -- a run that is a reply to its words has ended as it should
@@ -194,8 +217,9 @@ module _ {I C O : Type 0} (source : sources.Ghosts I) (behind : I → List ℕ �
         → EndsAsAsked source behind kept beside out gone wire wish end line i i' c c' o o' l l'
     EndsAsAsked-reply wish r end line i i' c c' o o' l l' replies h same stays memory = record {
       check = λ name graph e. (go r name graph (subst (RepliesTo r) e replies) memory, stays);
+      stream = λ name file e. (sweep r name file (subst (RepliesTo r) e replies) memory, stays);
       watch = λ options e. stream r options (subst (RepliesTo r) e replies) memory;
-      other = λ _ _. (h, same, stays);
+      other = λ _ _ _. (h, same, stays);
     }
       where
         go : (r : Reply) (name : List ℕ) (graph : GraphText) → RepliesTo r (Checks name graph)
@@ -206,6 +230,15 @@ module _ {I C O : Type 0} (source : sources.Ghosts I) (behind : I → List ℕ �
         go reply.NoMemory name graph replies memory =
             let (is, told, one, three) = memory refl in
             no_words name graph end line i i' c c' o o' is told one same three
+
+        sweep : (r : Reply) (name : List ℕ) (file : Option (List ℕ)) → RepliesTo r (ChecksStream name file)
+            → (r ≡ reply.NoMemory → (end ≡ status.NoMemory) × (line ≡ no_memory_line) × (i' ≡ i) × (o' ≡ o))
+            → StreamChecked source behind kept beside out name file end line i i' c c' o o'
+        sweep (reply.Asked text) name file replies memory = absurd replies
+        sweep (reply.Mistake text) name file replies memory = absurd replies
+        sweep reply.NoMemory name file replies memory =
+            let (is, told, one, three) = memory refl in
+            StreamChecked-nothing source behind kept beside out name file end line i i' c c' o o' is told one same three
 
         stream : (r : Reply) (options : WatchOptions) → RepliesTo r (Watches options)
             → (r ≡ reply.NoMemory → (end ≡ status.NoMemory) × (line ≡ no_memory_line) × (i' ≡ i) × (o' ≡ o))

@@ -9,5 +9,6 @@ pub mod Replaced
 pub mod Replies
 pub mod Sizing
 pub mod Stopping
+pub mod StreamChecking
 pub mod Unmarked
 pub mod Watched

@@ -6,7 +6,7 @@ use Rattle.kc_io.specs.declared.sink.Sink as sinks
 use Rattle.kc_io.specs.declared.source.Source as sources
 use Rattle.kc_wire.specs.declared.wire.Wire as wires
 use Rattle.kc_files.specs.Folders.{Held, IsBegun, TellsNothing, held_as}
-use Rattle.kc_cores.specs.CheckEnded.{EndsAsAsked}
+use Rattle.kc_cores.specs.Asked.{EndsAsAsked}
 use Rattle.kc_cores.specs.CoresEnded.{IsAnswerTo, done_line}
 use Rattle.kc_cores.specs.Endings.{NoFileGraphAt, RepliesTo}
 use Rattle.kc_cores.specs.Inputs.{known_bytes}

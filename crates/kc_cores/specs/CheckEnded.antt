@@ -1,10 +1,9 @@
 -- How a run ends that checks a certificate, and what it has done then.
-use Rattle.std.specs.Prelude.{◌≡◌, ◌⊎◌, ◌≤◌, ℕ, Bool, List, [], Option, Some, IfSome, Result, Ok, Err, length, nat_lt, take, if◌then◌else◌}
+use Rattle.std.specs.Prelude.{◌≡◌, ◌⊎◌, ◌≤◌, ℕ, List, [], Option, Some, IfSome, Result, Ok, Err, length, nat_lt, take, if◌then◌else◌}
 use Rattle.std.specs.Io.KnownBytes.{Appends}
 use Rattle.kc_io.specs.Causes.{Rose}
 use Rattle.kc_io.specs.declared.sink.Sink as sinks
 use Rattle.kc_io.specs.declared.source.Source as sources
-use Rattle.kc_wire.specs.declared.wire.Wire as wires
 use Rattle.kc_dialect.specs.declared.dialect.Dialect.{Dialect}
 use Rattle.kc_dialect.specs.declared.skipped.SkippedLines.{SkippedLines}
 use Rattle.kc_graph.specs.SimpleGraph.{SimpleGraph}
@@ -16,13 +15,11 @@ use Rattle.kc_claims.specs.Claims.{claims_of}
 use Rattle.kc_claims.specs.declared.claim.Claim.{Claim}
 use Rattle.kc_claims.specs.declared.fault.ClaimFault.{ClaimFault}
 use Rattle.kc_cores.specs.Answers.{IsRefusedBy}
-use Rattle.kc_cores.specs.CoresEnded.{CoresEnded, IsUnopenedLine, WriteFaultsAt}
+use Rattle.kc_cores.specs.CoresEnded.{IsUnopenedLine, WriteFaultsAt}
 use Rattle.kc_cores.specs.Inputs.{IsGraphOf, known_bytes}
 use Rattle.kc_cores.specs.Sentences.{GraphRefusal, no_memory_line, read_fault_line, refused_line, write_fault_line}
 use Rattle.kc_cores.specs.Verdicts.{claim_refused_line, fault_line, no_line, yes_line}
-use Rattle.kc_watch.specs.declared.options.WatchOptions.{WatchOptions}
-use Rattle.kc_cores.specs.WatchEnded.{WatchEnded}
-use Rattle.kc_cores.specs.Wishes.{Checks, GraphText, Watches, Wish}
+use Rattle.kc_cores.specs.Wishes.{GraphText}
 use Rattle.kc_cores.specs.declared.CoresStatus.{CoresStatus}
 use Rattle.kc_cores.specs.declared.CoresStatus.TheVariants as status
 use Rattle.kc_cores.specs.declared.input.FileFault.{FileFault}
@@ -96,15 +93,3 @@ pub record CheckEnded {I C O : Type 0} (source : sources.Ghosts I) (behind : I �
   pub did : CheckAt end name graph (known_bytes source.left behind graph.file i) (beside c name) (out.taken o) (out.taken o') told
   pub faults : CheckFaultsAt end (source.faults i) (source.faults i') (kept.faults c) (kept.faults c')
   pub write_faults : WriteFaultsAt end (out.faults o) (out.faults o')
-
--- A run for what the words ask for has ended with this status, and `told` is the line about it. Where they ask for a check or for the answer
--- to a stream it ends as that, and else as `CoresEnded` says. Only a check turns to the certificate, and only a stream to the wire `l`; a
--- stream is read and answered on the wire alone.
-pub record EndsAsAsked {I C O L : Type 0} (source : sources.Ghosts I) (behind : I → List ℕ → Option (List ℕ)) (kept : sources.Ghosts C)
-    (beside : C → List ℕ → Option (List ℕ)) (out : sinks.Ghosts O) (gone : O → Bool) (wire : wires.Ghosts L) (wish : Wish) (end : CoresStatus)
-    (told : List ℕ) (i i' : I) (c c' : C) (o o' : O) (l l' : L) : Type 0 where
-  pub check : (name : List ℕ) (graph : GraphText) → wish ≡ Checks name graph
-      → CheckEnded source behind kept beside out name graph end told i i' c c' o o' × (l' ≡ l)
-  pub watch : (options : WatchOptions) → wish ≡ Watches options → WatchEnded wire options end told l l' × (i' ≡ i) × (c' ≡ c) × (o' ≡ o)
-  pub other : ((name : List ℕ) (graph : GraphText) → wish ≡ Checks name graph → ⊥) → ((options : WatchOptions) → wish ≡ Watches options → ⊥)
-      → CoresEnded source behind out gone wish end told i i' o o' × (c' ≡ c) × (l' ≡ l)

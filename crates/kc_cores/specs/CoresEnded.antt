@@ -11,7 +11,7 @@ use Rattle.clap.specs.Kinds.{Kinds}
 use Rattle.kc_cores.specs.Answers.{IsRefusedBy, IsTextFor, graph_meaning}
 use Rattle.kc_cores.specs.Inputs.{known_bytes}
 use Rattle.kc_cores.specs.Sentences.{GraphRefusal, no_memory_line, read_fault_line, refused_line, unopened_line, unopened_short_line, write_fault_line}
-use Rattle.kc_cores.specs.Wishes.{Asks, Checks, MayReply, Query, Replies, Saves, Watches, Wish}
+use Rattle.kc_cores.specs.Wishes.{Asks, Checks, ChecksStream, MayReply, Query, Replies, Saves, Watches, Wish}
 use Rattle.kc_cores.specs.declared.CoresStatus.{CoresStatus}
 use Rattle.kc_cores.specs.declared.CoresStatus.TheVariants as status
 use Rattle.kc_cores.specs.declared.input.FileFault.{FileFault}
@@ -21,6 +21,7 @@ abbrev pub given_bytes : {I : Type 0} → (I → Option (List ℕ)) → (I → L
 given_bytes left behind (Asks query) i = known_bytes left behind query.graph.file i
 given_bytes left behind (Saves name query) i = None
 given_bytes left behind (Checks name graph) i = None
+given_bytes left behind (ChecksStream name file) i = None
 given_bytes left behind (Watches options) i = None
 given_bytes left behind (Replies kinds) i = None
 
@@ -29,6 +30,7 @@ abbrev pub IsAnswerTo : Wish → Option (List ℕ) → List ℕ → List ℕ →
 IsAnswerTo (Asks query) known text summary = (bytes : List ℕ) × IfSome known (λ all. bytes ≡ all) × IsTextFor query bytes text summary
 IsAnswerTo (Saves name query) known text summary = ⊥
 IsAnswerTo (Checks name graph) known text summary = ⊥
+IsAnswerTo (ChecksStream name file) known text summary = ⊥
 IsAnswerTo (Watches options) known text summary = ⊥
 IsAnswerTo (Replies kinds) known text summary = ⊥
 
@@ -45,6 +47,7 @@ abbrev pub IsOutputFor : Wish → Option (List ℕ) → List ℕ → Type 0
 IsOutputFor (Asks query) known text = (summary : List ℕ) × IsAnswerTo (Asks query) known text summary
 IsOutputFor (Saves name query) known text = ⊥
 IsOutputFor (Checks name graph) known text = ⊥
+IsOutputFor (ChecksStream name file) known text = ⊥
 IsOutputFor (Watches options) known text = ⊥
 IsOutputFor (Replies kinds) known text = MayReply true (Replies kinds)
 

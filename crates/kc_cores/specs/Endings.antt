@@ -4,14 +4,17 @@ use Rattle.std.specs.Io.KnownBytes.{Appends}
 use Rattle.kc_io.specs.Causes.{Rose}
 use Rattle.clap.specs.declared.error.kind.ErrorKind.{ErrorKind}
 use Rattle.kc_text.specs.declared.refusal.Refusal.{Refusal}
+use Rattle.kc_claims.specs.LineFaults.{HasFaultyLine}
 use Rattle.kc_claims.specs.declared.claim.Claim.{Claim}
 use Rattle.kc_claims.specs.declared.fault.ClaimFault.{ClaimFault}
+use Rattle.kc_claims.specs.declared.fault.FaultyLine.{FaultyLine}
 use Rattle.kc_cores.specs.Answers.{IsRefusedBy}
 use Rattle.kc_cores.specs.CheckEnded.{certificate_meaning}
 use Rattle.kc_cores.specs.CoresEnded.{IsUnopenedLine}
 use Rattle.kc_cores.specs.Sentences.{GraphRefusal, no_memory_line, read_fault_line, refused_line, write_fault_line}
+use Rattle.kc_cores.specs.StreamChecked.{IsFaultyLine, faulty_line}
 use Rattle.kc_cores.specs.Verdicts.{claim_refused_line, fault_line, no_line}
-use Rattle.kc_cores.specs.Wishes.{Asks, Checks, GraphText, MayReply, Query, Saves, Watches, Wish, is_shown}
+use Rattle.kc_cores.specs.Wishes.{Asks, Checks, ChecksStream, GraphText, MayReply, Query, Saves, Watches, Wish, is_shown}
 use Rattle.kc_cores.specs.declared.CoresStatus.{CoresStatus}
 use Rattle.kc_cores.specs.declared.CoresStatus.TheVariants as status
 use Rattle.kc_cores.specs.declared.ending.Ending.{Ending}
@@ -131,6 +134,39 @@ abbrev pub HasNoVerdict : Ending → List ℕ → GraphText → Option (List ℕ
 HasNoVerdict ending name graph known certificate i i' c c' =
     (HasNoClaims ending name certificate c c' × (i' ≡ i)) ⊎ (HasNoFileGraph ending graph known i i' × (c' ≡ c))
 
+-- why there is no answer of a stream: its file was not opened, a line of it is wrong, it was not read, or there is no memory
+abbrev pub NoStreamAt : CoresStatus → List ℕ → Option (List ℕ) → Option (List ℕ) → Option (List ℕ) → ℕ → ℕ → Type 0
+NoStreamAt status.Unopened line file known certificate before after =
+    (name : List ℕ) × (fault : FileFault) × (file ≡ Some name) × IsUnopenedLine name fault line × Rose before after
+NoStreamAt status.Refused line file known certificate before after = IsFaultyLine file known certificate line × (after ≡ before)
+NoStreamAt status.ReadFault line file known certificate before after = (line ≡ read_fault_line) × Rose before after
+NoStreamAt status.NoMemory line file known certificate before after = (line ≡ no_memory_line) × (after ≡ before)
+NoStreamAt _ line file known certificate before after = ⊥
+
+-- why there is no answer of a stream that was opened, for these claims
+abbrev pub NoStreamFor : CoresStatus → List ℕ → Option (List ℕ) → List Claim → Option (List ℕ) → ℕ → ℕ → Type 0
+NoStreamFor status.Refused line file claims known before after =
+    ((faulty : FaultyLine) × (line ≡ faulty_line file faulty) × HasFaultyLine claims known faulty) × (after ≡ before)
+NoStreamFor status.ReadFault line file claims known before after = (line ≡ read_fault_line) × Rose before after
+NoStreamFor status.NoMemory line file claims known before after = (line ≡ no_memory_line) × (after ≡ before)
+NoStreamFor _ line file claims known before after = ⊥
+
+-- the run ends since there is no answer of a stream, or no claims, and the input is as it was
+abbrev pub HasNoStreamVerdict : Ending → List ℕ → Option (List ℕ) → Option (List ℕ) → Option (List ℕ) → ℕ → ℕ → ℕ → ℕ → Type 0
+HasNoStreamVerdict ending name file known certificate i i' c c' =
+    (HasNoClaims ending name certificate c c' × (i' ≡ i))
+    ⊎ (NoStreamAt ending.status (line_of ending) file known certificate i i' × (c' ≡ c))
+
+-- the file of a stream was not opened
+abbrev pub IsUnopenedAt : CoresStatus → List ℕ → Option (List ℕ) → Type 0
+IsUnopenedAt end line file = (end ≡ status.Unopened) × ((name : List ℕ) × (fault : FileFault) × (file ≡ Some name) × IsUnopenedLine name fault line)
+
+-- the run ends by this line of a stream, or there is no memory for the message
+abbrev pub TellsFaultyLineAt : CoresStatus → List ℕ → Option (List ℕ) → FaultyLine → Type 0
+TellsFaultyLineAt status.Refused line file faulty = line ≡ faulty_line file faulty
+TellsFaultyLineAt status.NoMemory line file faulty = line ≡ no_memory_line
+TellsFaultyLineAt _ line file faulty = ⊥
+
 -- the run ends since a write failed
 abbrev pub IsCut : Ending → Bool → Type 0
 IsCut ending gone = CutAt ending.status (line_of ending) gone
@@ -160,4 +196,5 @@ abbrev pub IsRequestFor : Wanted → Wish → Type 0
 IsRequestFor (wanted.Lines request) wish = wish ≡ Asks (query_of request)
 IsRequestFor (wanted.Save request) wish = wish ≡ Saves request.file.now (query_of request.lines)
 IsRequestFor (wanted.Check request) wish = wish ≡ Checks request.certificate.now (text_of request.graph)
+IsRequestFor (wanted.CheckStream request) wish = wish ≡ ChecksStream request.certificate.now (option_map (λ name. name.now) request.file)
 IsRequestFor (wanted.Watch options) wish = wish ≡ Watches options

@@ -1,5 +1,6 @@
 -- What public contracts speak of.
 pub mod Answers
+pub mod Asked
 pub mod CheckEnded
 pub mod CoresEnded
 pub mod Inputs
@@ -9,6 +10,7 @@ pub mod Outputs
 pub mod Saved
 pub mod Sentences
 pub mod Skips
+pub mod StreamChecked
 pub mod Verdicts
 pub mod WatchEnded
 pub mod Wishes

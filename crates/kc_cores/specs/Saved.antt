@@ -8,7 +8,7 @@ use Rattle.kc_wire.specs.declared.wire.Wire as wires
 use Rattle.kc_files.specs.Faults.{fault_sentence}
 use Rattle.kc_files.specs.Folders.{Held}
 use Rattle.kc_files.specs.declared.fault.FolderFault.{FolderFault}
-use Rattle.kc_cores.specs.CheckEnded.{EndsAsAsked}
+use Rattle.kc_cores.specs.Asked.{EndsAsAsked}
 use Rattle.kc_cores.specs.CoresEnded.{IsAnswerTo, done_line}
 use Rattle.kc_cores.specs.Endings.{NoFileGraphAt}
 use Rattle.kc_cores.specs.Inputs.{known_bytes}

@@ -103,13 +103,17 @@ with_cores =
 abbrev pub certificate_rule : Rule
 certificate_rule = record (new_rule (codes "CERTIFICATE")) { required = true }
 
+-- `--stream`
+abbrev pub stream_flag : Rule
+stream_flag = record (new_rule (codes "stream")) { long = Some (codes "stream"); action = Some SetTrue }
+
 -- the command that checks a certificate, without the name of the file
 abbrev pub certificate_command : App
 certificate_command = with_rule (new_app (codes "check")) certificate_rule
 
 -- the command that checks a certificate
 abbrev pub check_command : App
-check_command = with_rule (with_dialect certificate_command) (new_rule (codes "FILE"))
+check_command = with_rule (with_rule (with_dialect certificate_command) stream_flag) (new_rule (codes "FILE"))
 
 -- the command with those of all tasks
 abbrev pub with_tasks : App
@@ -144,12 +148,13 @@ pub record Query : Type 0 where
   pub quiet : Bool
 
 -- What words ask for: a task for a graph; or the same, whose lines become the file of this name; or the check of a certificate of this name
--- for the graph of a text; or the answer to a stream. Or they ask for help or the version, or are not right: then there is a reply of one of
--- these kinds, as those of `clap`.
+-- for the graph of a text; or the same for an ascending stream of a file, or of standard input; or the answer to a stream. Or they ask for help
+-- or the version, or are not right: then there is a reply of one of these kinds, as those of `clap`.
 pub data Wish : Type 0 where
   Asks : Query → Wish
   Saves : Text → Query → Wish
   Checks : Text → GraphText → Wish
+  ChecksStream : Text → Option Text → Wish
   Watches : WatchOptions → Wish
   Replies : Kinds → Wish
 
@@ -308,16 +313,26 @@ wish_for (Some task) (Some graph) None output quiet = Replies (ValueValidation �
 wish_for (Some task) (Some graph) (Some format) output quiet =
     wish_to output (record { task = task; graph = graph; format = format; quiet = quiet })
 
--- what the command `check` asks for, by the name of the certificate and the text of a graph
-abbrev pub check_wish : Option Text → Option GraphText → Wish
-check_wish None graph = Replies (InvalidSubcommand ∷ [])
-check_wish (Some name) None = Replies (ValueValidation ∷ [])
-check_wish (Some name) (Some graph) = Checks name graph
+-- the check of a certificate for an ascending stream, which is in no dialect
+abbrev pub stream_wish : Text → Option Text → Option Dialect → Wish
+stream_wish name file None = ChecksStream name file
+stream_wish name file (Some dialect) = Replies (ValueValidation ∷ [])
+
+-- the check of a certificate for the graph of a text, or for the text as an ascending stream
+abbrev pub check_of : Text → GraphText → Bool → Wish
+check_of name graph stream = if stream then stream_wish name graph.file graph.dialect else Checks name graph
+
+-- what the command `check` asks for, by the name of the certificate, the text of a graph, and whether it is a stream
+abbrev pub check_wish : Option Text → Option GraphText → Bool → Wish
+check_wish None graph stream = Replies (InvalidSubcommand ∷ [])
+check_wish (Some name) None stream = Replies (ValueValidation ∷ [])
+check_wish (Some name) (Some graph) stream = check_of name graph stream
 
 -- what a command of this name for a text asks for, with these matches
 abbrev pub wish_about : Text → List Row → Wish
 wish_about name rows =
-    if bytes_eq name (codes "check") then check_wish (first_of (codes "CERTIFICATE") rows) (text_in rows)
+    if bytes_eq name (codes "check")
+    then check_wish (first_of (codes "CERTIFICATE") rows) (text_in rows) (is_set (first_of (codes "stream") rows))
     else wish_for (task_in name rows) (text_in rows) (format_in (first_of (codes "format") rows)) (file_named (first_of (codes "output") rows))
     (is_set (first_of (codes "quiet") rows))
 
@@ -368,5 +383,6 @@ abbrev pub MayReply : Bool → Wish → Type 0
 MayReply shown (Asks query) = ⊥
 MayReply shown (Saves name query) = ⊥
 MayReply shown (Checks name graph) = ⊥
+MayReply shown (ChecksStream name file) = ⊥
 MayReply shown (Watches options) = ⊥
 MayReply shown (Replies kinds) = (kind : ErrorKind) × IsAmong kind kinds × (is_shown kind ≡ shown)

@@ -15,6 +15,7 @@ use crate::pipe::PipeSink;
 use crate::prepared::{Prepared, prepare};
 use crate::request::{CheckRequest, Request, Wanted};
 use crate::saving::save;
+use crate::stream_check::check_stream;
 use crate::watching::watch;
 use crate::words::{Reply, request_of};
 use crate::{CoresStatus, CoresStreams};
@@ -138,6 +139,7 @@ fn work<W: AsStr, I: FileInput, C: FileInput, O: PipeSink, E, L: Wire, P: Folder
         Ok(Wanted::Lines(request)) => list(alloc, request, streams),
         Ok(Wanted::Save(request)) => save(alloc, request, &mut streams.input, folder),
         Ok(Wanted::Check(request)) => check(alloc, request, streams),
+        Ok(Wanted::CheckStream(request)) => check_stream(alloc, request, streams),
         Ok(Wanted::Watch(options)) => watch(alloc, options, &mut streams.wire),
     }
 }
@@ -159,7 +161,10 @@ fn work<W: AsStr, I: FileInput, C: FileInput, O: PipeSink, E, L: Wire, P: Folder
 /// - `faults`: a count of faults of the input or of the certificate rose at `Unopened` and at `ReadFault`, and else both are as they were.
 /// - `write_faults`: the count of faults of `out` rose at `WriteFault`, and else it is as it was.
 ///
-/// For a stream it is `WatchEnded`, and the input, the certificate and `out` are as they were:
+/// For a check of an ascending stream it is `StreamChecked`, which says the same, but that no graph is made: at `Refused` the line tells the first
+/// line that is wrong, and at `Uncertified` what shows that the claims are none.
+///
+/// For a stream that is answered it is `WatchEnded`, and the input, the certificate and `out` are as they were:
 ///
 /// - `happened`: the history of the wire, where it tells one, goes on with these events, reads and writes in one order.
 /// - `answered`: at every moment at which more was asked for, just the answer to the bytes read so far was written. Where the stream ended,

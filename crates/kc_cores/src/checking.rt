@@ -8,6 +8,7 @@ ghost use Rattle.kc_cores.specs.Endings.{HasNoClaims, HasNoVerdict, HasSaid, IsR
 ghost use Rattle.kc_cores.specs.Inputs.{known_bytes};
 
 use crate::CoresStatus;
+use crate::ascending::begins_ascending;
 use crate::ending::{Ending, unopened};
 use crate::input::FileInput;
 use crate::message::Message;
@@ -54,7 +55,7 @@ fn claims_from<C: Source>(alloc: Global, name: &str, source: &mut C) -> Result<V
 }
 
 /// The claims of the certificate of this name.
-fn read_claims<C: FileInput>(
+pub(crate) fn read_claims<C: FileInput>(
     alloc: Global,
     name: &str,
     certificate: &mut C,
@@ -71,7 +72,8 @@ fn read_claims<C: FileInput>(
 }
 
 /// What the claims are for the graph of a file, by a sweep over its edges as they come. It tells nothing where the text is in a dialect, is
-/// that of no file that can be read beside the input, or is none that a sweep can tell of.
+/// that of no file that can be read beside the input, or is none that a sweep can tell of. Where the file begins with edges that don't
+/// ascend, no sweep begins.
 fn swept<I: FileInput>(
     alloc: Global,
     claims: &[Claim],
@@ -90,6 +92,9 @@ fn swept<I: FileInput>(
     let Some(name) = text.file else {
         return None;
     };
+    if !begins_ascending(alloc, &mut input.beside(name)?) {
+        return None;
+    }
     let mut file = input.beside(name)?;
     match check_stream(alloc, claims, &mut file) {
         Ok(found) => Some(found),

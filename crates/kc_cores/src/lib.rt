@@ -10,7 +10,8 @@
 //! [`answer_in_memory`](memory::answer_in_memory) is the same run over an input and sinks in memory, where every clause speaks of bytes that
 //! are known. [`answer_on`](program::answer_on) takes the words of a program's arguments.
 //!
-//! The command `check` reads a certificate beside the graph (`specs/CheckEnded.antt`), and writes whether it shows the core numbers.
+//! The command `check` reads a certificate beside the graph (`specs/CheckEnded.antt`), and writes whether it shows the core numbers. With
+//! `--stream` it makes no graph, and insists on edges that ascend (`specs/StreamChecked.antt`).
 //!
 //! The command `watch` answers a stream on a wire (`specs/WatchEnded.antt`): edges, and then batches of changes, each as soon as it has ended.
 //!
@@ -28,6 +29,7 @@
 #![tactic(auto)]
 
 pub mod answer;
+mod ascending;
 mod checking;
 mod dialect_words;
 mod ending;
@@ -52,6 +54,7 @@ mod sizes;
 mod skips;
 pub mod std_input;
 pub mod std_pipe;
+mod stream_check;
 mod streams;
 mod summary;
 mod verdict;

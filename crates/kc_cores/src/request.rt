@@ -35,6 +35,13 @@ pub(crate) struct CheckRequest<'a> {
     pub(crate) graph: NamedText<'a>,
 }
 
+/// The check of a certificate for an ascending stream: that of a file, or of standard input where no file is named.
+#[derive(Clone, Copy, Debug)]
+pub(crate) struct StreamRequest<'a> {
+    pub(crate) certificate: &'a str,
+    pub(crate) file: Option<&'a str>,
+}
+
 /// A task whose lines become a file.
 #[derive(Clone, Copy, Debug)]
 pub(crate) struct SaveRequest<'a> {
@@ -48,6 +55,7 @@ pub(crate) enum Wanted<'a> {
     Lines(Request<'a>),
     Save(SaveRequest<'a>),
     Check(CheckRequest<'a>),
+    CheckStream(StreamRequest<'a>),
     /// The answer to a stream.
     Watch(WatchOptions),
 }

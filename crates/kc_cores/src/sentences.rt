@@ -8,7 +8,7 @@ use kc_head::{Foreign, foreign_in};
 use kc_text::Kind;
 
 /// What was found wrong, and how it is mended.
-fn sentence_of(kind: Kind) -> &'static str
+pub(crate) fn sentence_of(kind: Kind) -> &'static str
     ensures { result.now ≡ sentence_of kind }
 {
     match kind {

@@ -4,20 +4,20 @@
 //! function of them, on which `specs/Wishes.antt` stands. The texts of help, of the version and about wrong words are those of `clap`.
 ghost use Rattle.std.specs.Prelude.{◌≡◌, ◌∷◌, [], IfErr, IfOk, codes, false, map, option_map};
 ghost use Rattle.clap.specs.Matches.{found_of};
-ghost use Rattle.clap.specs.Simple.{app_of, subcommand_rows_of, with_subcommand};
+ghost use Rattle.clap.specs.Simple.{app_of, new_rule, subcommand_rows_of, with_subcommand};
 ghost use Rattle.clap.specs.Values.{kind_of};
 ghost use Rattle.clap.specs.Walk.{first_of, rows_of, rule_of};
 ghost use Rattle.clap.specs.declared.builder.command.Command.TheViews.{out-Command};
-ghost use Rattle.kc_cores.specs.Wishes.{Replies, bare_command, certificate_command, certificate_rule, check_command, check_wish, core_option};
+ghost use Rattle.kc_cores.specs.Wishes.{Replies, bare_command, certificate_command, certificate_rule, check_command, check_of, check_wish, core_option};
 ghost use Rattle.kc_cores.specs.Wishes.{cores_command, edges_flag};
 ghost use Rattle.kc_cores.specs.Wishes.{is_set, level_in, members_command, members_in, members_task, quiet_command, quiet_flag};
 ghost use Rattle.kc_cores.specs.Wishes.{options_in, task_command, task_in, watch_wish, wish_about, wish_by, wish_for, wish_in, wish_of, with_cores};
-ghost use Rattle.kc_cores.specs.Wishes.{wish_to, with_tasks, writing_command};
+ghost use Rattle.kc_cores.specs.Wishes.{stream_flag, stream_wish, wish_to, with_tasks, writing_command};
 ghost use Rattle.kc_cores.specs.Endings.{IsReplyFor, IsRequestFor, RepliesTo, query_of, text_of};
 
 use crate::dialect_words::{file_named, number_of, text_in, with_dialect};
 use crate::output_words::{format_in, format_option, output_option};
-use crate::request::{CheckRequest, NamedText, Request, SaveRequest, Task, Wanted};
+use crate::request::{CheckRequest, NamedText, Request, SaveRequest, StreamRequest, Task, Wanted};
 use crate::watch_words::{options_of, show_in, watch_command};
 use clap::error::ErrorKind;
 use clap::{Arg, ArgAction, ArgMatches, Command, Error};
@@ -226,6 +226,17 @@ fn certificate_rule<'a>(alloc: Global) -> Arg<'a>
     )
 }
 
+/// The flag `--stream`.
+fn stream_flag<'a>(alloc: Global) -> Arg<'a>
+    ensures rule { rule_of result ≡ stream_flag }
+    ensures local { result.global ≡ false }
+{
+    Arg::new(alloc, "stream")
+        .long("stream")
+        .action(ArgAction::SetTrue)
+        .help("Makes no graph: each line must be above the one before it, with its lesser id first")
+}
+
 /// The command `check`, without the name of the file.
 fn certificate_command<'a>(alloc: Global) -> Result<Command<'a>, NoMemory>
     ensures app { IfOk result (λ made. app_of made ≡ certificate_command) }
@@ -239,16 +250,23 @@ fn certificate_command<'a>(alloc: Global) -> Result<Command<'a>, NoMemory>
         .arg(certificate_rule(alloc))
 }
 
+/// The name of the file of the edges.
+fn edges_rule<'a>(alloc: Global) -> Arg<'a>
+    ensures rule { rule_of result ≡ new_rule (codes "FILE") }
+    ensures local { result.global ≡ false }
+{
+    Arg::new(alloc, "FILE").help(
+        "The edge list, two ids a line; standard input where it is - or none is named",
+    )
+}
+
 /// The command `check`.
 fn check_command<'a>(alloc: Global) -> Result<Command<'a>, NoMemory>
     ensures app { IfOk result (λ made. app_of made ≡ check_command) }
     ensures local { IfOk result (λ made. (out-Command made).has_globals ≡ false) }
 {
-    let file = Arg::new(alloc, "FILE").help(
-        "The edge list, two ids a line; standard input where it is - or none is named",
-    );
     let command = with_dialect(alloc, certificate_command(alloc)?)?;
-    command.arg(file)
+    command.arg(stream_flag(alloc))?.arg(edges_rule(alloc))
 }
 
 /// The command whose words are read.
@@ -401,22 +419,74 @@ fn request_for<'a>(
     Ok(wanted_to(output, lines))
 }
 
-/// What the command `check` asks for, by the name of the certificate and the text of a graph.
+/// What is replied where an ascending stream is to be in a dialect.
+fn wrong_stream(alloc: Global) -> Reply
+    ensures { RepliesTo result (Replies (ErrorKind.ValueValidation ∷ [])) }
+{
+    match String::from_str(
+        alloc,
+        "cores: --stream takes lines of two ids with a blank or a tab between them; leave it out for other tables, or write such lines\n",
+    ) {
+        Ok(text) => Reply::Mistake(text),
+        Err(_) => Reply::NoMemory,
+    }
+}
+
+/// The check of a certificate for an ascending stream, where it is in no dialect.
+fn stream_for<'a>(
+    alloc: Global,
+    certificate: &'a str,
+    graph: NamedText<'a>,
+) -> Result<Wanted<'a>, Reply>
+    ensures asks { IfOk result (λ wanted. IsRequestFor wanted
+        (stream_wish certificate.entry.now (option_map (λ t. t.now) graph.entry.file) graph.entry.dialect)) }
+    ensures replies { IfErr result (λ reply. RepliesTo reply
+        (stream_wish certificate.entry.now (option_map (λ t. t.now) graph.entry.file) graph.entry.dialect)) }
+{
+    match graph.dialect {
+        Some(_) => Err(wrong_stream(alloc)),
+        None => Ok(Wanted::CheckStream(StreamRequest {
+            certificate,
+            file: graph.file,
+        })),
+    }
+}
+
+/// The check of a certificate for the graph of a text, or for the text as an ascending stream.
+fn check_of<'a>(
+    alloc: Global,
+    certificate: &'a str,
+    graph: NamedText<'a>,
+    stream: bool,
+) -> Result<Wanted<'a>, Reply>
+    ensures asks { IfOk result (λ wanted. IsRequestFor wanted (check_of certificate.entry.now (text_of graph.entry) stream)) }
+    ensures replies { IfErr result (λ reply. RepliesTo reply (check_of certificate.entry.now (text_of graph.entry) stream)) }
+{
+    if stream {
+        stream_for(alloc, certificate, graph)
+    } else {
+        Ok(Wanted::Check(CheckRequest { certificate, graph }))
+    }
+}
+
+/// What the command `check` asks for, by the name of the certificate, the text of a graph, and whether it is a stream.
 fn check_for<'a>(
     alloc: Global,
     certificate: Option<&'a str>,
     graph: Option<NamedText<'a>>,
+    stream: bool,
 ) -> Result<Wanted<'a>, Reply>
-    ensures asks { IfOk result (λ wanted. IsRequestFor wanted (check_wish (option_map (λ t. t.now) certificate.entry) (option_map text_of graph.entry))) }
+    ensures asks { IfOk result (λ wanted. IsRequestFor wanted
+        (check_wish (option_map (λ t. t.now) certificate.entry) (option_map text_of graph.entry) stream)) }
     ensures replies { IfErr result (λ reply. RepliesTo reply
-        (check_wish (option_map (λ t. t.now) certificate.entry) (option_map text_of graph.entry))) }
+        (check_wish (option_map (λ t. t.now) certificate.entry) (option_map text_of graph.entry) stream)) }
 {
     let Some(certificate) = certificate else {
         return Err(no_command(alloc));
     };
     match graph {
         None => Err(wrong_value(alloc)),
-        Some(graph) => Ok(Wanted::Check(CheckRequest { certificate, graph })),
+        Some(graph) => check_of(alloc, certificate, graph, stream),
     }
 }
 
@@ -427,7 +497,8 @@ fn wanted_of<'a>(alloc: Global, name: &str, found: &ArgMatches<'a>) -> Result<Wa
 {
     let graph = text_in(found);
     if name == "check" {
-        return check_for(alloc, found.get_str("CERTIFICATE"), graph);
+        let certificate = found.get_str("CERTIFICATE");
+        return check_for(alloc, certificate, graph, is_set(found.get_str("stream")));
     }
     let task = task_in(name, found);
     let quiet = is_set(found.get_str("quiet"));

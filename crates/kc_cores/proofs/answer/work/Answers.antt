@@ -1,9 +1,9 @@
 -- A reply, a listing, a file, a check and the answer to a stream each end as the words ask for.
-use Rattle.std.proofs.Common.{map, refl}
+use Rattle.std.proofs.Common.{map, option_map, refl}
 use Rattle.kc_cores.specs.Endings.{line_of, query_of, text_of}
 use Rattle.kc_cores.specs.Wishes.{wish_of}
 use Rattle.kc_cores.proofs.Replaced.{RunEnded-asked, RunEnded-reply, RunEnded-save, not_saved}
-use Rattle.kc_cores.proofs.Checked.{EndsAsAsked-check, EndsAsAsked-lines, EndsAsAsked-reply, EndsAsAsked-watch}
+use Rattle.kc_cores.proofs.Checked.{EndsAsAsked-check, EndsAsAsked-lines, EndsAsAsked-reply, EndsAsAsked-stream, EndsAsAsked-watch}
 use Rattle.kc_cores.proofs.answer.work.Goals as goal
 
 pub returns-in-Err-clause-ended : goal.returns-in-Err-clause-ended
@@ -16,7 +16,8 @@ returns-in-Err-clause-ended g c =
     (c.show.ensures.ended (wish_of (map g.W.AsStr.text c.args.words.now)) c.in-Err.ensures.replies) c.show.ensures.certificate
     c.show.ensures.wire c.show.ensures.memory in
     RunEnded-reply g.I.Source g.I.FileInput.behind g.P.Folder.holds g.P.Folder.failed g.C.Source g.C.FileInput.behind g.O.Sink g.O.PipeSink.gone g.L.Wire
-    (wish_of (map g.W.AsStr.text c.args.words.now)) c.in-Err.reply c.show.result.status (line_of c.show.result) c.args.streams.now.input c.show.new.streams.input
+    (wish_of (map g.W.AsStr.text c.args.words.now)) c.in-Err.reply c.show.result.status (line_of c.show.result) c.args.streams.now.input
+    c.show.new.streams.input
     c.args.streams.now.certificate c.show.new.streams.certificate c.args.streams.now.out c.show.new.streams.out c.args.streams.now.wire c.show.new.streams.wire
     c.args.folder.now c.args.folder.now c.in-Err.ensures.replies ended c.show.ensures.certificate c.show.ensures.wire refl c.show.ensures.memory
 
@@ -54,7 +55,24 @@ returns-in-Ok-Check-clause-ended g c =
     c.check.ensures.wire in
     RunEnded-asked g.I.Source g.I.FileInput.behind g.P.Folder.holds g.P.Folder.failed g.C.Source g.C.FileInput.behind g.O.Sink g.O.PipeSink.gone g.L.Wire
     (wish_of (map g.W.AsStr.text c.args.words.now)) c.check.result.status (line_of c.check.result) c.args.streams.now.input c.check.new.streams.input
-    c.args.streams.now.certificate c.check.new.streams.certificate c.args.streams.now.out c.check.new.streams.out c.args.streams.now.wire c.check.new.streams.wire
+    c.args.streams.now.certificate c.check.new.streams.certificate c.args.streams.now.out c.check.new.streams.out c.args.streams.now.wire
+    c.check.new.streams.wire
+    c.args.folder.now c.args.folder.now (not_saved _ _ asks (λ name query e. absurd (cc))) ended refl
+
+pub returns-in-Ok-CheckStream-clause-ended : goal.returns-in-Ok-CheckStream-clause-ended
+returns-in-Ok-CheckStream-clause-ended g c =
+    let asks = rw c.in-Ok-CheckStream.field-0-is at c.in-Ok-CheckStream.ensures.asks in
+    let ended =
+    EndsAsAsked-stream g.I.Source g.I.FileInput.behind g.C.Source g.C.FileInput.behind g.O.Sink g.O.PipeSink.gone
+    g.L.Wire (wish_of (map g.W.AsStr.text c.args.words.now)) c.in-Ok-CheckStream.request.certificate.now
+    (option_map (λ name. name.now) c.in-Ok-CheckStream.request.file) c.check_stream.result.status
+    (line_of c.check_stream.result) c.args.streams.now.input c.check_stream.new.streams.input c.args.streams.now.certificate
+    c.check_stream.new.streams.certificate c.args.streams.now.out c.check_stream.new.streams.out c.args.streams.now.wire
+    c.check_stream.new.streams.wire asks c.check_stream.ensures.ended c.check_stream.ensures.wire in
+    RunEnded-asked g.I.Source g.I.FileInput.behind g.P.Folder.holds g.P.Folder.failed g.C.Source g.C.FileInput.behind g.O.Sink g.O.PipeSink.gone g.L.Wire
+    (wish_of (map g.W.AsStr.text c.args.words.now)) c.check_stream.result.status (line_of c.check_stream.result) c.args.streams.now.input
+    c.check_stream.new.streams.input c.args.streams.now.certificate c.check_stream.new.streams.certificate c.args.streams.now.out
+    c.check_stream.new.streams.out c.args.streams.now.wire c.check_stream.new.streams.wire
     c.args.folder.now c.args.folder.now (not_saved _ _ asks (λ name query e. absurd (cc))) ended refl
 
 pub returns-in-Ok-Watch-clause-ended : goal.returns-in-Ok-Watch-clause-ended

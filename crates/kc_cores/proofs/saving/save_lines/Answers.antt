@@ -12,7 +12,8 @@ give_up-is_left-requires g c = rose-above _ _ (at_err c.write.result c.write.ens
 pub returns-clause-saved : goal.returns-clause-saved
 returns-clause-saved g c =
     let took = at_ok c.write.result c.write.ensures.whole (sym c.is_err.ensures.value ∙ c.if-is_err.false) in
-    on_ok_weaker c.put_in_place.result (λ placed. HasBytes-part (g.P.Folder.holds c.begin.new.self) _ _ _ (made_text c.args.lines) placed c.in-Ok.ensures.begun.0
+    on_ok_weaker c.put_in_place.result (λ placed. HasBytes-part (g.P.Folder.holds c.begin.new.self) _ _ _ (made_text c.args.lines) placed
+    c.in-Ok.ensures.begun.0
     c.put_in_place.ensures.untold took)
     c.put_in_place.ensures.placed
 

@@ -1,5 +1,5 @@
 -- The text and the names are those of the rows of the command.
-use Rattle.std.proofs.Common.{◌≡◌, ◌∙◌, Bool, List, Option, ap, ap₂, codes, cond, false, subst, sym, true}
+use Rattle.std.proofs.Common.{◌≡◌, ◌∙◌, Bool, List, Option, ap, codes, cond, false, subst, sym, true}
 use Rattle.std.specs.Str.{bytes_eq}
 use Rattle.std.proofs.lemmas.Result.{IfErr-weaker, IfOk-weaker}
 use Rattle.clap.specs.Matches.{found_of}
@@ -11,22 +11,33 @@ use Rattle.kc_cores.specs.Wishes.{GraphText, Wish, check_wish, file_named, forma
 use Rattle.kc_cores.specs.declared.request.Task.{Task}
 use Rattle.kc_cores.proofs.words.wanted_of.Goals as goal
 
--- what the command `check` asks for
-wish-check : (name : Text) (rows : List Row) → bytes_eq name (codes "check") ≡ true
-    → wish_about name rows ≡ check_wish (first_of (codes "CERTIFICATE") rows) (text_in rows)
-wish-check name rows is =
-    ap (λ (b : Bool). cond b (check_wish (first_of (codes "CERTIFICATE") rows) (text_in rows))
+-- what a command asks for, by whether it is `check`
+wish-by : (name : Text) (rows : List Row) (check : Bool) → bytes_eq name (codes "check") ≡ check
+    → wish_about name rows
+    ≡ cond check (check_wish (first_of (codes "CERTIFICATE") rows) (text_in rows) (is_set (first_of (codes "stream") rows)))
+    (wish_for (task_in name rows) (text_in rows) (format_in (first_of (codes "format") rows)) (file_named (first_of (codes "output") rows))
+    (is_set (first_of (codes "quiet") rows)))
+wish-by name rows check is =
+    ap (λ (b : Bool). cond b (check_wish (first_of (codes "CERTIFICATE") rows) (text_in rows) (is_set (first_of (codes "stream") rows)))
     (wish_for (task_in name rows) (text_in rows) (format_in (first_of (codes "format") rows)) (file_named (first_of (codes "output") rows))
     (is_set (first_of (codes "quiet") rows)))) is
 
+-- what the command `check` asks for
+wish-check : (name : Text) (rows : List Row) → bytes_eq name (codes "check") ≡ true
+    → wish_about name rows ≡ check_wish (first_of (codes "CERTIFICATE") rows) (text_in rows) (is_set (first_of (codes "stream") rows))
+wish-check name rows is = wish-by name rows true is
+
+-- the same of parts that are the same
+check-same : {name name' : Option Text} {graph graph' : Option GraphText} {stream stream' : Bool} → name ≡ name' → graph ≡ graph' → stream ≡ stream'
+    → check_wish name graph stream ≡ check_wish name' graph' stream'
+check-same one two three = λ i. check_wish (one i) (two i) (three i)
+
 -- what another command asks for
 wish-other : (name : Text) (rows : List Row) → bytes_eq name (codes "check") ≡ false
-    → wish_about name rows ≡ wish_for (task_in name rows) (text_in rows) (format_in (first_of (codes "format") rows)) (file_named (first_of (codes "output") rows))
+    → wish_about name rows
+    ≡ wish_for (task_in name rows) (text_in rows) (format_in (first_of (codes "format") rows)) (file_named (first_of (codes "output") rows))
     (is_set (first_of (codes "quiet") rows))
-wish-other name rows is =
-    ap (λ (b : Bool). cond b (check_wish (first_of (codes "CERTIFICATE") rows) (text_in rows))
-    (wish_for (task_in name rows) (text_in rows) (format_in (first_of (codes "format") rows)) (file_named (first_of (codes "output") rows))
-    (is_set (first_of (codes "quiet") rows)))) is
+wish-other name rows is = wish-by name rows false is
 
 -- the same of parts that are the same
 asks-same : {task task' : Option Task} {graph graph' : Option GraphText} {format format' : Option Format} {output output' : Option Text}
@@ -38,14 +49,18 @@ pub returns-then-eq-clause-asks : goal.returns-then-eq-clause-asks
 returns-then-eq-clause-asks c =
     let found = found_of c.args.found.now in
     let named = wish-check c.args.name.now (rows_of found) (sym c.eq.ensures ∙ c.if-eq.true) in
-    let rows = ap₂ check_wish (c.get_str.ensures ∙ first_value-rows found (codes "CERTIFICATE")) c.text_in-graph.ensures in
+    let rows =
+    check-same (c.get_str-certificate.ensures ∙ first_value-rows found (codes "CERTIFICATE")) c.text_in-graph.ensures
+    (c.is_set.ensures ∙ ap is_set (c.get_str.ensures ∙ first_value-rows found (codes "stream"))) in
     IfOk-weaker c.check_for.result _ _ (λ wanted h. subst (λ (w : Wish). IsRequestFor wanted w) (rows ∙ sym named) h) c.check_for.ensures.asks
 
 pub returns-then-eq-clause-replies : goal.returns-then-eq-clause-replies
 returns-then-eq-clause-replies c =
     let found = found_of c.args.found.now in
     let named = wish-check c.args.name.now (rows_of found) (sym c.eq.ensures ∙ c.if-eq.true) in
-    let rows = ap₂ check_wish (c.get_str.ensures ∙ first_value-rows found (codes "CERTIFICATE")) c.text_in-graph.ensures in
+    let rows =
+    check-same (c.get_str-certificate.ensures ∙ first_value-rows found (codes "CERTIFICATE")) c.text_in-graph.ensures
+    (c.is_set.ensures ∙ ap is_set (c.get_str.ensures ∙ first_value-rows found (codes "stream"))) in
     IfErr-weaker c.check_for.result _ _ (λ r h. subst (λ (w : Wish). RepliesTo r w) (rows ∙ sym named) h) c.check_for.ensures.replies
 
 pub returns-clause-asks : goal.returns-clause-asks
