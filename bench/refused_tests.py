@@ -30,14 +30,14 @@ import refused
 TOP = pathlib.Path(__file__).resolve().parent.parent
 CRATES = TOP / "crates"
 MEMORY = re.compile(rb"out of memory|no memory|NoMemory|OutOfMemory|AllocError|AllocFailed|NoSpace|memory allocation failed", re.I)
-NO_END = "no end: it does not end"
-NO_THREAD = "a thread can't be started, so its work comes last, and the test waits for it before"
 EXPECTED = {
     ("kc_base_tests", "status -6: assertion failed: false"): "a text was wanted, and its reading has failed",
     ("kc_claims_tests", '"no claims"'): "the claims can't be kept",
     ("kc_order_tests", "assertion failed: waiting.lock(rt).push_back(next).is_ok()"): "the queue can't grow",
-    ("kc_order_tests", f"handing::an_item_of_which_a_thread_was_told_is_never_absent_and_never_turned: {NO_END}"): NO_THREAD,
-    ("kc_order_tests", f"racing::sure_answers_beneath_puts_and_takes_are_right: {NO_END}"): NO_THREAD,
+    ("kc_dialogue_tests", "assertion `left == right` failed"): "the wire in memory fails where it has no memory",
+    ("kc_agree_tests", "nothing was stored between"): "the order can't be asked",
+    ("kc_run_tests", 'error: "refused"'): "the input can't be read",
+    ("kc_text_tests", 'error: "refused"'): "the text can't be read",
 }
 
 

@@ -1,7 +1,8 @@
 -- The flag and the name of the file add their rules to the command.
-use Rattle.std.proofs.Common.{ap₂, ◌∙◌}
+use Rattle.std.proofs.Common.{ap, ap₂, ◌∙◌}
 use Rattle.std.proofs.lemmas.Result.{IfOk-weaker}
 use Rattle.clap.specs.Simple.{with_rule}
+use Rattle.kc_cores.specs.Wishes.{with_dialect}
 use Rattle.kc_cores.proofs.words.check_command.Goals as goal
 
 pub returns-clause-app : goal.returns-clause-app
@@ -9,4 +10,5 @@ returns-clause-app c =
     IfOk-weaker c.arg-2.result _ _
     (λ made h. h.shape c.edges_rule.ensures.local
     ∙ ap₂ with_rule (c.in_ok-arg.ensures.shape c.stream_flag.ensures.local
-    ∙ ap₂ with_rule c.in_ok-command.ensures.app c.stream_flag.ensures.rule) c.edges_rule.ensures.rule) c.arg-2.ensures
+    ∙ ap₂ with_rule (c.in_ok-command.ensures.app ∙ ap with_dialect c.in_ok-certificate_command.ensures.app) c.stream_flag.ensures.rule)
+    c.edges_rule.ensures.rule) c.arg-2.ensures
