@@ -114,7 +114,13 @@ fn the_first_line_that_is_no_edge_is_told(rt: HostRuntime) -> Result<(), Fail> {
 
 #[test]
 fn a_read_that_fails_is_told(rt: HostRuntime) -> Result<(), Fail> {
-    assert_eq!(rt; told(&rt, ORDER, EDGES, 4, &[1])?, Err(StreamFault::ReadFault));
-    assert_eq!(rt; told(&rt, ORDER, EDGES, 4, &[4])?, Err(StreamFault::ReadFault));
+    assert_eq!(rt;
+        told(&rt, ORDER, EDGES, 4, &[1])?,
+        Err(StreamFault::ReadFault)
+    );
+    assert_eq!(rt;
+        told(&rt, ORDER, EDGES, 4, &[4])?,
+        Err(StreamFault::ReadFault)
+    );
     Ok(())
 }
