@@ -1,13 +1,15 @@
--- Updates in turn: one more at the end of those that were made.
-use Rattle.std.proofs.Common.{◌≡◌, ◌<◌, ◌≤◌, ◌+◌, ◌&&◌, not, ℕ, Bool, true, false, List, [], ◌∷◌, ◌++◌, length, get_or, take, cond, refl, sym, ap, ◌∙◌}
-use Rattle.std.proofs.Common.{arith, length-append, subst}
+-- Updates in turn: one more at the end of those that were made, and one that meets what others of other edges leave.
+use Rattle.std.proofs.Common.{◌≡◌, ◌≢◌, ◌<◌, ◌≤◌, ◌+◌, ◌&&◌, ◌||◌, not, ℕ, suc, Bool, true, false, List, [], ◌∷◌, ◌++◌, length, get_or, take, cond}
+use Rattle.std.proofs.Common.{refl, sym, ap, ap₂, ◌∙◌, inl, inr, arith, length-append, subst}
+use Rattle.std.proofs.lemmas.Bool.{false_from_ne_true}
 use Rattle.std.proofs.lemmas.List.{take_more}
 use Rattle.kc_graph.specs.Core.{AreCoreNumbers}
 use Rattle.kc_graph.specs.Lawful.{IsCertified, Ranked}
-use Rattle.kc_graph.specs.SimpleGraph.{SimpleGraph}
+use Rattle.kc_graph.specs.SimpleGraph.{SimpleGraph, adjacent}
 use Rattle.kc_graph.specs.Plans.{is_applied, updated}
 use Rattle.kc_graph.specs.declared.update.Update.{Update}
-use Rattle.kc_cert.proofs.Keeping.{size-updated}
+use Rattle.kc_graph.proofs.Ends.{joins, joins-true}
+use Rattle.kc_cert.proofs.Keeping.{adjacent-updated, size-updated}
 use Rattle.kc_keeper.specs.Batches.{applied_in_turn, count_applied, made_in_turn}
 use Rattle.kc_keeper.specs.Earlier.{KeepsEarlier}
 use Rattle.kc_keeper.specs.Telling.{IsToldOf, TellsOneMore}
@@ -18,6 +20,30 @@ use Rattle.kc_keeper.specs.declared.earlier.EarlierNumbers.{EarlierNumbers}
 pub made-push : (g : SimpleGraph) (us : List Update) (u : Update) → made_in_turn g (us ++ u ∷ []) ≡ updated u (made_in_turn g us)
 made-push g [] u = refl
 made-push g (x ∷ us) u = made-push (updated x g) us u
+
+-- an edge that does not join the two, come or gone, leaves them
+stays : (add a j : Bool) → j ≡ false → cond add (a || j) (a && not j) ≡ a
+stays add a j none = grind arith
+
+-- an update of another edge leaves it to this one whether it is applied
+pub applied-other : (g : SimpleGraph) (x u : Update) → (x.u, x.v) ≢ (u.u, u.v) → is_applied u (updated x g) ≡ is_applied u g
+applied-other g x u other =
+    let first = x.ordered in
+    let second = u.ordered in
+    let apart : joins x.u x.v u.u u.v ≡ false =
+    false_from_ne_true (joins x.u x.v u.u u.v) (λ j. elim (joins-true x.u x.v u.u u.v j) [
+      | inl p ↦ other (ap₂ (λ (s t : ℕ). (s, t)) (sym p.0) (sym p.1))
+      | inr p ↦ absurd (omega (arith, p.0, p.1))
+    ]) in
+    ap (λ (t : Bool). cond u.add (not t) t)
+    (adjacent-updated x g u.u u.v ∙ stays x.add (adjacent g u.u u.v) (joins x.u x.v u.u u.v) apart)
+
+-- so do several in turn
+pub applied-others : (us : List Update) (g : SimpleGraph) (u : Update)
+    → ((i : ℕ) → i < length us → ((get_or us i u).u, (get_or us i u).v) ≢ (u.u, u.v)) → is_applied u (made_in_turn g us) ≡ is_applied u g
+applied-others [] g u apart = refl
+applied-others (x ∷ us) g u apart =
+    applied-others us (updated x g) u (λ i l. apart (suc i) (omega (arith, l))) ∙ applied-other g x u (apart 0 (omega arith))
 
 -- updates leave the vertices
 pub size-made : (g : SimpleGraph) (us : List Update) → (made_in_turn g us).size ≡ g.size

@@ -56,12 +56,9 @@ pub(crate) fn make_all_in(
     Ok(())
 }
 
-/// Makes a list of the vertices whose number is another one than before, in ascending order, with both numbers.
-pub(crate) fn tell_cores(
-    before: &[u32],
-    now: &[u32],
-    cores: &mut Vec<CoreChange>,
-) -> Result<(), NoMemory>
+/// Makes a list of the vertices whose number is another one than before, in ascending order, with both numbers. What the list held before is
+/// forgotten. There are as many numbers as before, and a number's place is its vertex.
+pub fn tell_cores(before: &[u32], now: &[u32], cores: &mut Vec<CoreChange>) -> Result<(), NoMemory>
     requires long { length before.now ≡ length now.now }
     requires few { length now.now < 2 ^ 32 }
     ensures { OnOk result (AreCoreChanges before.now now.now cores.new.items) }

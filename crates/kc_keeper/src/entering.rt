@@ -15,7 +15,7 @@ use std::alloc::Global;
 use std::mem;
 
 /// The first update of a batch whose greater end is no vertex, with its place and that end; none where each end is a vertex.
-pub(crate) fn first_outside(updates: &[Update], vertices: u32) -> Option<(usize, u32)>
+pub fn first_outside(updates: &[Update], vertices: u32) -> Option<(usize, u32)>
     ensures { MatchOption result (EndsAreWithin vertices updates.now) (λ first. IsFirstOutside vertices updates.now first.0 first.1) }
 {
     for (place, update) in updates.iter().enumerate() {

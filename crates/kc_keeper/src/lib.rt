@@ -17,6 +17,8 @@ mod fault;
 mod keeper;
 mod members;
 
+pub use at_once::tell_cores;
 pub use changes::{Changes, CoreChange};
+pub use entering::first_outside;
 pub use fault::{ApplyFault, GrowFault, OpenFault, UpdateFault};
 pub use keeper::Keeper;

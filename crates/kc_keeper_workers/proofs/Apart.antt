@@ -1,50 +1,19 @@
 -- Updates of different edges: none changes what another one meets.
-use Rattle.std.proofs.Common.{◌≡◌, ◌≢◌, ◌<◌, ◌≤◌, ◌+◌, ◌&&◌, not, ℕ, suc, Bool, true, false, cond, List, [], ◌∷◌, ◌++◌, length, get_or, take}
+use Rattle.std.proofs.Common.{◌≡◌, ◌≢◌, ◌<◌, ◌+◌, ◌&&◌, not, ℕ, Bool, true, false, cond, List, [], ◌∷◌, ◌++◌, length, get_or, take}
 use Rattle.std.proofs.Common.{refl, sym, ap, ◌∙◌, subst, arith, get_or-take, length-take}
 use Rattle.std.proofs.lemmas.List.{take_more}
 use Rattle.std.specs.List.{list_any}
-use Rattle.std.specs.FinSet.{contains}
-use Rattle.kc_graph.specs.Edges.{with_edge, without_edge}
-use Rattle.kc_graph.specs.Plans.{is_applied, updated}
-use Rattle.kc_graph.specs.SimpleGraph.{SimpleGraph, adjacent}
+use Rattle.kc_graph.specs.Plans.{is_applied}
+use Rattle.kc_graph.specs.SimpleGraph.{SimpleGraph}
 use Rattle.kc_graph.specs.declared.update.Update.{Update}
-use Rattle.kc_text.specs.Inputs.{IsBatch, edge_of, parts_of}
+use Rattle.kc_text.specs.Inputs.{IsBatch, edge_of}
 use Rattle.kc_text.specs.LastUpdates.{last_of_edges, same_edge}
 use Rattle.kc_text.proofs.Decided.{length-last}
-use Rattle.kc_batch_effects.specs.Batches.{graph_after_update}
-use Rattle.kc_batch_effects.proofs.Applying.{contains-ordered, contains-other, graph_after_update-add, graph_after_update-remove}
-use Rattle.kc_keeper.specs.Batches.{made_in_turn}
 use Rattle.kc_keeper.specs.Telling.{IsToldOf}
 use Rattle.kc_keeper.specs.declared.changes.Changes.{Changes}
-use Rattle.kc_keeper.proofs.InTurn.{told-more}
+use Rattle.kc_keeper.proofs.InTurn.{applied-others, told-more}
 
 -- What an update meets. ------------------------------------------------------------------------------------
-
--- an update, by both words for the graph after it
-one-step : (g : SimpleGraph) (x : Update) → updated x g ≡ graph_after_update g (parts_of x)
-one-step g x =
-    let ordered = x.ordered in
-    elim x.add as (λ b. cond b (with_edge g x.u x.v) (without_edge g x.u x.v) ≡ graph_after_update g (record { add = b; u = x.u; v = x.v })) [
-      | true ↦ graph_after_update-add g x.u x.v ordered
-      | false ↦ graph_after_update-remove g x.u x.v ordered
-    ]
-
--- an update of another edge leaves what an update meets
-meets-other : (g : SimpleGraph) (x u : Update) → edge_of x ≢ edge_of u → is_applied u (updated x g) ≡ is_applied u g
-meets-other g x u other =
-    let ordered = u.ordered in
-    let here : adjacent (updated x g) u.u u.v ≡ adjacent g u.u u.v =
-    contains-ordered (updated x g) u.u u.v ordered
-    ∙ (ap (λ (h : SimpleGraph). contains h.edges (u.u, u.v)) (one-step g x)
-    ∙ (contains-other g (parts_of x) (u.u, u.v) other ∙ sym (contains-ordered g u.u u.v ordered))) in
-    ap (λ (t : Bool). cond u.add (not t) t) here
-
--- so do several in turn
-meets-others : (us : List Update) (g : SimpleGraph) (u : Update) → ((i : ℕ) → i < length us → edge_of (get_or us i u) ≢ edge_of u)
-    → is_applied u (made_in_turn g us) ≡ is_applied u g
-meets-others [] g u apart = refl
-meets-others (x ∷ us) g u apart =
-    meets-others us (updated x g) u (λ i l. apart (suc i) (omega (arith, l))) ∙ meets-other g x u (apart 0 (omega arith))
 
 -- one update more of a batch is told of, with whether it changes the graph before the batch
 pub one-more : {g : SimpleGraph} {us : List Update} {i : ℕ} {old new : Changes} (vertices : ℕ) (u : Update) (applied : Bool) → IsBatch vertices us
@@ -58,7 +27,7 @@ one-more {g} {us} {i} {old} {new} vertices u applied is_batch low here told is a
     let below : k < i = omega (arith, l, length-take i us) in
     is_batch.apart k i u below low (ap edge_of (sym (get_or-take i us k u below)) ∙ (e ∙ ap edge_of here)) in
     subst (λ (z : List Update). IsToldOf g z new) (sym more)
-    (told-more u applied (is ∙ sym (meets-others (take i us) g u apart)) added removed list g (take i us) refl told)
+    (told-more u applied (is ∙ sym (applied-others (take i us) g u apart)) added removed list g (take i us) refl told)
 
 -- The last updates of edges. -------------------------------------------------------------------------------
 

@@ -11,11 +11,11 @@ ghost use Rattle.kc_keeper.specs.Cores.{AreCoreChanges};
 ghost use Rattle.kc_keeper.specs.Telling.{HasMadeBatch};
 
 use crate::paying::pays;
-use crate::telling::{are_within, tell_cores, tell_updates};
+use crate::telling::tell_updates;
 use crate::working::work;
 use kc_batch_effects::decide;
 use kc_graph::{NoMemory, Update};
-use kc_keeper::{ApplyFault, Changes, Keeper};
+use kc_keeper::{ApplyFault, Changes, Keeper, first_outside, tell_cores};
 use kc_levels::LAST_NUMBER;
 use kc_queue::WORKERS;
 use std::alloc::{AllocError, Global};
@@ -132,9 +132,9 @@ fn is_made_by_workers<R: Threads + Wait + Sync>(
     if count == 0 || updates.len() > LAST_NUMBER as usize {
         return false;
     }
-    if !are_within(updates, keeper.vertices()) {
+    let None = first_outside(updates, keeper.vertices()) else {
         return false;
-    }
+    };
     if !names_each_edge_once(alloc, updates) {
         return false;
     }

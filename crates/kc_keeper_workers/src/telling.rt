@@ -1,25 +1,11 @@
-//! What a batch changes, told from the graph before it, and from the core numbers before and after it.
-ghost use Rattle.std.specs.Prelude.{◌≡◌, ◌<◌, ◌+◌, ◌^◌, ◌&&◌, ◌++◌, ◌∷◌, [], true, not, OnOk, length, if◌then◌else◌};
+//! What a batch changes, told from the graph before it.
+ghost use Rattle.std.specs.Prelude.{◌≡◌, ◌<◌, ◌+◌, ◌&&◌, ◌++◌, ◌∷◌, [], not, OnOk, if◌then◌else◌};
 ghost use Rattle.kc_graph.specs.Plans.{is_applied};
 ghost use Rattle.kc_text.specs.Inputs.{IsBatch};
-ghost use Rattle.kc_keeper.specs.Causes.{EndsAreWithin};
-ghost use Rattle.kc_keeper.specs.Cores.{AreCoreChanges};
 ghost use Rattle.kc_keeper.specs.Telling.{IsToldOf};
 
 use kc_graph::{NoMemory, SharedGraph, Update};
-use kc_keeper::{Changes, CoreChange};
-
-/// Whether both ends of each update are among so many vertices.
-pub(crate) fn are_within(updates: &[Update], vertices: u32) -> bool
-    ensures { result ≡ true → EndsAreWithin vertices updates.now }
-{
-    for update in updates {
-        if update.v >= vertices {
-            return false;
-        }
-    }
-    true
-}
+use kc_keeper::Changes;
 
 /// Whether an update changes the graph.
 fn changes_graph(graph: &SharedGraph, update: Update) -> bool
@@ -67,30 +53,6 @@ pub(crate) fn tell_updates(
     for update in updates {
         let applied = changes_graph(graph, *update);
         tell_one(changes, *update, applied)?;
-    }
-    Ok(())
-}
-
-/// Makes a list of the vertices whose number is another one than before, in ascending order, with both numbers.
-pub(crate) fn tell_cores(
-    before: &[u32],
-    now: &[u32],
-    cores: &mut Vec<CoreChange>,
-) -> Result<(), NoMemory>
-    requires long { length before.now ≡ length now.now }
-    requires few { length now.now < 2 ^ 32 }
-    ensures { OnOk result (AreCoreChanges before.now now.now cores.new.items) }
-{
-    cores.clear();
-    for (vertex, number) in now.iter().enumerate() {
-        let earlier = before[vertex];
-        if earlier != *number {
-            cores.push(CoreChange {
-                vertex: vertex as u32,
-                before: earlier,
-                now: *number,
-            })?;
-        }
     }
     Ok(())
 }
