@@ -26,7 +26,7 @@ stays : (add a j : Bool) → j ≡ false → cond add (a || j) (a && not j) ≡ 
 stays add a j none = grind arith
 
 -- an update of another edge leaves it to this one whether it is applied
-pub applied-other : (g : SimpleGraph) (x u : Update) → (x.u, x.v) ≢ (u.u, u.v) → is_applied u (updated x g) ≡ is_applied u g
+pub applied-other : (g : SimpleGraph) (x u : Update) → ◌≢◌ {A = ℕ × ℕ} (x.u, x.v) (u.u, u.v) → is_applied u (updated x g) ≡ is_applied u g
 applied-other g x u other =
     let first = x.ordered in
     let second = u.ordered in
@@ -40,7 +40,7 @@ applied-other g x u other =
 
 -- so do several in turn
 pub applied-others : (us : List Update) (g : SimpleGraph) (u : Update)
-    → ((i : ℕ) → i < length us → ((get_or us i u).u, (get_or us i u).v) ≢ (u.u, u.v)) → is_applied u (made_in_turn g us) ≡ is_applied u g
+    → ((i : ℕ) → i < length us → ◌≢◌ {A = ℕ × ℕ} ((get_or us i u).u, (get_or us i u).v) (u.u, u.v)) → is_applied u (made_in_turn g us) ≡ is_applied u g
 applied-others [] g u apart = refl
 applied-others (x ∷ us) g u apart =
     applied-others us (updated x g) u (λ i l. apart (suc i) (omega (arith, l))) ∙ applied-other g x u (apart 0 (omega arith))
