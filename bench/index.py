@@ -16,7 +16,7 @@ import sys
 TOP = pathlib.Path(__file__).resolve().parent.parent
 CRATES = TOP / "crates"
 PAGE = TOP / "docs" / "INDEX.md"
-MOST = 2
+MOST = 3
 LEAST = 4
 
 ITEM = re.compile(r"^\s*(?:pub(?:\([^)]*\))?\s+)?(?:const\s+|unsafe\s+|extern \"C\"\s+)*(?:fn|struct|enum|trait|const|type)\s+(\w+)", re.M)
@@ -24,7 +24,7 @@ VARIANT = re.compile(r"^    ([A-Z]\w+)(?:\s*[,({]|$)", re.M)
 ENUM = re.compile(r"\benum\s+\w+[^{]*\{(.*?)^\}", re.M | re.S)
 WORD = re.compile(r"^(?:abbrev |opaque |pub |record |data )+([^\s:(]+)", re.M)
 FIELD = re.compile(r"^  (?:pub )?([a-z][\w'-]*)\s*:", re.M)
-LEMMA = re.compile(r"^(?:abbrev |private |pub )*([A-Za-z][\w'◌-]*)\s*:(?=\s)", re.M)
+LEMMA = re.compile(r"^ *(?:abbrev |private |pub )*([A-Za-z][\w'◌-]*)\s*:(?=\s)", re.M)
 
 HEAD = """# Index
 
