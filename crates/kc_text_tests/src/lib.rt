@@ -1,9 +1,18 @@
-//! Tests of `kc_text` and `kc_report`: what texts give, which line is refused, and the bytes of lines and of a generated text.
+//! Tests of `kc_text`, `kc_report`, `kc_dialect` and `kc_head`.
+//!
+//! What texts give, which line is refused, and the bytes of lines and of a generated text. The plain texts of files as people hold them, their
+//! bad lines, and what the first bytes of a file tell.
 //!
 //! The crate has no code but its tests. They stand apart from those crates, whose own functions would be proved once more beside them.
 #![tactic(auto)]
 
 #[cfg(test)]
+mod files;
+#[cfg(test)]
+mod heads;
+#[cfg(test)]
 mod reports;
+#[cfg(test)]
+mod signatures;
 #[cfg(test)]
 mod texts;

@@ -1,7 +1,7 @@
 //! Updates of one worker, which nobody overtakes.
 ghost use Rattle.std.specs.Prelude.{◌≡◌, ◌<◌};
 
-use crate::runs::{addition, assert_entered, enter, hired, two_edges};
+use crate::worker_runs::{addition, assert_entered, enter, hired, two_edges};
 use kc_shared::{Parts, Shared};
 use kc_table::{Name, Pass};
 use kc_workers::{Assignment, NoGate, Worker, Workplace};

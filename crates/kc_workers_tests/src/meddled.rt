@@ -1,7 +1,7 @@
 //! An update that another worker overtakes before each of its first tries.
 ghost use Rattle.std.specs.Prelude.{◌≡◌, ◌<◌};
 
-use crate::runs::{addition, assert_entered, enter, hired, two_edges};
+use crate::worker_runs::{addition, assert_entered, enter, hired, two_edges};
 use kc_graph::Update;
 use kc_shared::{Missed, Parts, Shared};
 use kc_table::{Name, Pass, shape, split};

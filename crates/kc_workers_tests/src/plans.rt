@@ -1,7 +1,7 @@
 //! Plans over a state that nobody changes.
 ghost use Rattle.std.specs.Prelude.{◌≡◌, ◌<◌};
 
-use crate::runs::{hired, two_edges};
+use crate::worker_runs::{hired, two_edges};
 use kc_graph::{Moves, Plan, Update};
 use kc_shared::{Parts, Shared};
 use kc_table::{Name, Pass, shape};

@@ -1,0 +1,2 @@
+-- What the replier of the tests says.
+pub mod Echoes

@@ -1,2 +1,0 @@
--- What the crate's own replier says.
-pub mod Echoes

@@ -1,0 +1,6 @@
+-- The item before is one of the list's numbers.
+use Rattle.std.proofs.Common.{◌<◌}
+use Rattle.kc_order_tests.proofs.plain_lists.check_reverse.Given as goal
+
+abbrev pub invariant-loop-x : goal.invariant-loop-x
+invariant-loop-x g l = l.before < 100001

@@ -1,0 +1,6 @@
+-- The pass stays one of the table.
+use Rattle.std.proofs.Common.{◌≡◌}
+use Rattle.kc_order_tests.proofs.telling.add_and_tell.Given as goal
+
+abbrev pub invariant-loop-k : goal.invariant-loop-k
+invariant-loop-k g l = l.pass.table ≡ l.fn.pass.table

@@ -1,6 +1,0 @@
--- The pass stays one of the table.
-use Rattle.std.proofs.Common.{◌≡◌}
-use Rattle.kc_topo_tests.proofs.racing.add_all.Given as goal
-
-abbrev pub invariant-loop-k : goal.invariant-loop-k
-invariant-loop-k g l = l.pass.table ≡ l.fn.pass.table

@@ -1,6 +1,0 @@
--- The pass stays one of the table.
-use Rattle.std.proofs.Common.{◌≡◌}
-use Rattle.kc_topo_tests.proofs.racing.compare_all.Given as goal
-
-abbrev pub invariant-loop : goal.invariant-loop
-invariant-loop g l = l.pass.table ≡ l.fn.pass.table
