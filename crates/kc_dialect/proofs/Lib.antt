@@ -1,4 +1,5 @@
 pub mod Cells
+pub mod Ends
 pub mod Fed
 pub mod LineAppend
 pub mod PlainDialect

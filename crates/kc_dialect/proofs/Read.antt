@@ -4,6 +4,7 @@ use Rattle.std.proofs.Common.{length-append, map, take}
 use Rattle.kc_dialect.specs.declared.bad_line.BadLine.{BadLine}
 use Rattle.kc_dialect.specs.declared.dialect.Dialect.{Dialect}
 use Rattle.kc_dialect.specs.declared.dialect.BadLines.TheVariants.{Stop}
+use Rattle.kc_dialect.specs.declared.dialect.Ids.TheVariants.{Numbers}
 use Rattle.kc_dialect.specs.declared.line_rewriter.LineRewriter.{LineRewriter}
 use Rattle.kc_dialect.specs.declared.skipped.SkippedLines.{SkippedLines}
 use Rattle.kc_dialect.specs.Dialects.{bad_lines_after, plain_lines}
@@ -74,10 +75,10 @@ stops-then a b x y ls ms more bad f h =
 
 -- plain lines were copied
 pub took-run : (old new : LineRewriter) (x y bytes : List ℕ) (n count : ℕ) (run : BeginsWithRun old.dialect.separator bytes n count)
-    → old.dialect.columns ≡ (1, 2) → old.dialect.skip ≤ old.lines → y ≡ x ++ map (spaced old.dialect.separator) (take n bytes)
+    → old.dialect.columns ≡ (1, 2) → old.dialect.ids ≡ Numbers → old.dialect.skip ≤ old.lines → y ≡ x ++ map (spaced old.dialect.separator) (take n bytes)
     → new.lines ≡ old.lines + count → new.dialect ≡ old.dialect → new.skipped ≡ old.skipped → TookLines old new x y run.read
-took-run old new x y bytes n count run columns skip text lines dialect skipped =
-    let (plain, good) = run.says old.dialect old.lines refl columns skip in
+took-run old new x y bytes n count run columns ids skip text lines dialect skipped =
+    let (plain, good) = run.says old.dialect old.lines refl columns ids skip in
     record {
       text = text ∙ ap (λ (t : List ℕ). x ++ t) (sym plain);
       lines = omega (arith, lines, run.counted);

@@ -20,9 +20,11 @@ use Rattle.kc_text.proofs.SaidAppend.{lines-newline}
 use Rattle.kc_dialect.specs.declared.bad_line.BadField.{BadField}
 use Rattle.kc_dialect.specs.declared.bad_line.BadLine.{BadLine}
 use Rattle.kc_dialect.specs.declared.dialect.Dialect.{Dialect}
+use Rattle.kc_dialect.specs.declared.dialect.Ids.{Ids}
+use Rattle.kc_dialect.specs.declared.dialect.Ids.TheVariants.{Numbers}
 use Rattle.kc_dialect.specs.declared.dialect.Separator.{Separator}
 use Rattle.kc_dialect.specs.declared.dialect.Separator.TheVariants.{Blank, Comma, Semicolon, Tab}
-use Rattle.kc_dialect.specs.Columns.{field_of, fields_from, fields_in, is_field, is_quote, is_separator, number_in_column, parts, quoted_behind, trimmed}
+use Rattle.kc_dialect.specs.Columns.{field_of, fields_from, fields_in, id_in_column, is_field, is_quote, is_separator, number_in_column, parts, quoted_behind, trimmed}
 use Rattle.kc_dialect.specs.Columns.{is_in_quotes, unquoted, without_back_blanks}
 use Rattle.kc_dialect.specs.Dialects.{bad_line, bad_lines_after, both, pair_in, plain_line, plain_lines, said_after, says_nothing, without_mark}
 use Rattle.kc_dialect.specs.PlainRuns.{AreFewDigits, BeginsPlainly, BeginsWithRun, spaced}
@@ -203,9 +205,9 @@ plain-says [] part second a = absurd (omega (arith, a.some))
 plain-says (b ∷ ds) part second a = says-something b (ds ++ part ∷ second) (first-code b ds a.each).0
 
 -- a plain line says its two numbers in each dialect of the first two columns, behind the lines that are skipped
-said-plain : (d : Dialect) (s : Separator) (n : ℕ) (first : List ℕ) (part : ℕ) (second : List ℕ) → d.separator ≡ s → d.columns ≡ (1, 2) → d.skip ≤ n
+said-plain : (d : Dialect) (s : Separator) (n : ℕ) (first : List ℕ) (part : ℕ) (second : List ℕ) → d.separator ≡ s → d.columns ≡ (1, 2) → d.ids ≡ Numbers → d.skip ≤ n
     → is_separator s part ≡ true → AreFewDigits first → AreFewDigits second → said_after d n (first ++ part ∷ second) ≡ Ok (Some (first, second))
-said-plain d s n first part second e columns skip h a b =
+said-plain d s n first part second e columns ids skip h a b =
     let line : List ℕ = first ++ part ∷ second in
     let bytes : List ℕ = cond (n == 0) (without_mark line) line in
     let (says, mark) = plain-says first part second a in
@@ -214,16 +216,16 @@ said-plain d s n first part second e columns skip h a b =
       | inr z ↦ ap (λ t. cond t (without_mark line) line) z
     ] in
     let at : map (λ (f : ℕ × List ℕ). f.1) (fields_in s line) ≡ first ∷ second ∷ [] = fields-two s first part second h a b in
-    let one : number_in_column d.separator d.columns.0 line ≡ Ok first =
-    ap (λ (t : Separator). number_in_column t d.columns.0 line) e ∙ ap (λ (c : ℕ × ℕ). number_in_column s c.0 line) columns
+    let one : id_in_column d.ids d.separator d.columns.0 line ≡ Ok first =
+    ap (λ (t : Ids). id_in_column t d.separator d.columns.0 line) ids ∙ ap (λ (t : Separator). number_in_column t d.columns.0 line) e ∙ ap (λ (c : ℕ × ℕ). number_in_column s c.0 line) columns
     ∙ first-column (length line) (fields_in s line) first (second ∷ []) (value first) at (few-spell first a) in
-    let two : number_in_column d.separator d.columns.1 line ≡ Ok second =
-    ap (λ (t : Separator). number_in_column t d.columns.1 line) e ∙ ap (λ (c : ℕ × ℕ). number_in_column s c.1 line) columns
+    let two : id_in_column d.ids d.separator d.columns.1 line ≡ Ok second =
+    ap (λ (t : Ids). id_in_column t d.separator d.columns.1 line) ids ∙ ap (λ (t : Separator). number_in_column t d.columns.1 line) e ∙ ap (λ (c : ℕ × ℕ). number_in_column s c.1 line) columns
     ∙ second-column (length line) (fields_in s line) first second [] (value second) at (few-spell second b) in
     let numbers : Result (Option (List ℕ × List ℕ)) BadField =
-    both (number_in_column d.separator d.columns.0 line) (number_in_column d.separator d.columns.1 line) in
+    both (id_in_column d.ids d.separator d.columns.0 line) (id_in_column d.ids d.separator d.columns.1 line) in
     ap (λ t. cond t (Ok None) (pair_in d bytes)) (le-ltb n d.skip skip) ∙ ap (pair_in d) same ∙ ap (λ t. cond t (Ok None) numbers) says
-    ∙ ap (λ (t : Result (List ℕ) BadField). both t (number_in_column d.separator d.columns.1 line)) one
+    ∙ ap (λ (t : Result (List ℕ) BadField). both t (id_in_column d.ids d.separator d.columns.1 line)) one
     ∙ ap (λ (t : Result (List ℕ) BadField). both (Ok first) t) two
 
 -- digits have no separator to be spaced
@@ -266,7 +268,7 @@ run-none s bytes = record {
   within = omega arith;
   counted = refl;
   fewer = omega arith;
-  says = λ d n e columns skip. (refl, refl);
+  says = λ d n e columns ids skip. (refl, refl);
 }
 
 -- one plain line more
@@ -295,11 +297,11 @@ run-more s bytes rest n count more behind run h =
       within = omega (arith, ap length behind, length-drop n bytes, ap length at-end, length-append whole h.rest, long, run.within, h.len);
       counted = omega (arith, run.counted, length-append run.read (line ∷ []));
       fewer = omega (arith, run.fewer, h.len);
-      says = λ d before e columns skip.
-          let (text, good) = run.says d before e columns skip in
+      says = λ d before e columns ids skip.
+          let (text, good) = run.says d before e columns ids skip in
           let k : ℕ = before + length run.read in
           let said : said_after d k line ≡ Ok (Some (h.first, h.second)) =
-          said-plain d s k h.first h.part h.second e columns (omega arith) h.parted h.are_first h.are_second in (
+          said-plain d s k h.first h.part h.second e columns ids (omega arith) h.parted h.are_first h.are_second in (
             plain-append d before run.read (line ∷ [])
                 ∙ ap (λ (t : List ℕ). t ++ plain_lines d k (line ∷ [])) text
                 ∙ ap (λ (t : List ℕ). map (spaced s) (take n bytes) ++ t) (append-nil (plain_line (said_after d k line)) ∙ ap plain_line said

@@ -14,7 +14,9 @@ use Rattle.kc_text.proofs.PlainLines.{said-edge}
 use Rattle.kc_text.proofs.SaidAppend.{said-append}
 use Rattle.kc_dialect.specs.declared.bad_line.BadField.{BadField}
 use Rattle.kc_dialect.specs.declared.dialect.Dialect.{Dialect}
-use Rattle.kc_dialect.specs.Columns.{checked, in_column, fields_in, number_in_column, checked_in}
+use Rattle.kc_dialect.specs.declared.dialect.Ids.{Ids}
+use Rattle.kc_dialect.specs.declared.dialect.Ids.TheVariants.{Numbers}
+use Rattle.kc_dialect.specs.Columns.{checked, checked_in, fields_in, id_in_column, in_column}
 use Rattle.kc_dialect.specs.Dialects.{both, said_after, pair_in, plain_line, plain_lines, says_nothing, without_mark}
 use Rattle.kc_dialect.specs.Sayings.{saying, sayings}
 
@@ -59,28 +61,35 @@ both-parts (Ok a) (Ok b) pair e =
 abbrev Spelled : Result (Option (List ℕ × List ℕ)) BadField → Type 0
 Spelled said = (pair : List ℕ × List ℕ) → said ≡ Ok (Some pair) → (number pair.0 ≡ Ok (value pair.0)) × (number pair.1 ≡ Ok (value pair.1))
 
+-- so is the id in a column, where ids are numbers
+id-spells : (d : Dialect) (column : ℕ) (line digits : List ℕ) → d.ids ≡ Numbers → id_in_column d.ids d.separator column line ≡ Ok digits
+    → number digits ≡ Ok (value digits)
+id-spells d column line digits numbers e =
+    numbered-spells (length line) (in_column column (fields_in d.separator line)) digits
+    (sym (ap (λ (t : Ids). id_in_column t d.separator column line) numbers) ∙ e)
+
 -- so are those of a line
-pair-spelled : (d : Dialect) (line : List ℕ) → Spelled (pair_in d line)
-pair-spelled d line pair e =
-    let first : Result (List ℕ) BadField = number_in_column d.separator d.columns.0 line in
-    let second : Result (List ℕ) BadField = number_in_column d.separator d.columns.1 line in
+pair-spelled : (d : Dialect) (line : List ℕ) → d.ids ≡ Numbers → Spelled (pair_in d line)
+pair-spelled d line numbers pair e =
+    let first : Result (List ℕ) BadField = id_in_column d.ids d.separator d.columns.0 line in
+    let second : Result (List ℕ) BadField = id_in_column d.ids d.separator d.columns.1 line in
     elim (cases_Bool (says_nothing (fields line))) [
       | inl h ↦ let none : pair_in d line ≡ Ok None = ap (λ b. cond b (Ok None) (both first second)) h in absurd (cc)
       | inr h ↦
           let is : pair_in d line ≡ both first second = ap (λ b. cond b (Ok None) (both first second)) h in
           let (p, q) = both-parts first second pair (sym is ∙ e) in (
-            numbered-spells (length line) (in_column d.columns.0 (fields_in d.separator line)) pair.0 p,
-            numbered-spells (length line) (in_column d.columns.1 (fields_in d.separator line)) pair.1 q,
+            id-spells d d.columns.0 line pair.0 numbers p,
+            id-spells d d.columns.1 line pair.1 numbers q,
           )
     ]
 
 -- and those of a line behind others
-after-spelled : (d : Dialect) (n : ℕ) (line : List ℕ) → Spelled (said_after d n line)
-after-spelled d n line pair e =
+after-spelled : (d : Dialect) (n : ℕ) (line : List ℕ) → d.ids ≡ Numbers → Spelled (said_after d n line)
+after-spelled d n line numbers pair e =
     let bytes : List ℕ = cond (n == 0) (without_mark line) line in
     elim (cases_Bool (nat_lt n d.skip)) [
       | inl h ↦ let none : said_after d n line ≡ Ok None = ap (λ b. cond b (Ok None) (pair_in d bytes)) h in absurd (cc)
-      | inr h ↦ pair-spelled d bytes pair (sym (ap (λ b. cond b (Ok None) (pair_in d bytes)) h) ∙ e)
+      | inr h ↦ pair-spelled d bytes numbers pair (sym (ap (λ b. cond b (Ok None) (pair_in d bytes)) h) ∙ e)
     ]
 
 -- an empty line says nothing
@@ -108,8 +117,8 @@ said-plain (Ok (Some pair)) rest h =
     ∙ said-edge whole (value pair.0) (value pair.1) rest begins
 
 -- plain lines say what the lines do
-pub said-lines : (d : Dialect) (n : ℕ) (ls : List (List ℕ)) → all_said (plain_lines d n ls) ≡ sayings d n ls
-said-lines d n [] = refl
-said-lines d n (line ∷ rest) =
-    said-plain (said_after d n line) (plain_lines d (n + 1) rest) (after-spelled d n line)
-    ∙ ap (λ (t : List TextLine). saying (said_after d n line) ∷ t) (said-lines d (n + 1) rest)
+pub said-lines : (d : Dialect) (n : ℕ) (ls : List (List ℕ)) → d.ids ≡ Numbers → all_said (plain_lines d n ls) ≡ sayings d n ls
+said-lines d n [] numbers = refl
+said-lines d n (line ∷ rest) numbers =
+    said-plain (said_after d n line) (plain_lines d (n + 1) rest) (after-spelled d n line numbers)
+    ∙ ap (λ (t : List TextLine). saying (said_after d n line) ∷ t) (said-lines d (n + 1) rest numbers)

@@ -1,7 +1,8 @@
 -- The fields of a line in a dialect, each with its place.
 use Rattle.std.specs.Prelude.{◌==◌, ◌&&◌, ◌+◌, ◌-◌, ℕ, Bool, true, false, not, List, [], ◌∷◌, length, map, take, drop, nat_lt, if◌then◌else◌}
 use Rattle.std.specs.Prelude.{Option, Some, None, Result, Ok, Err, slice_index, zero, suc}
-use Rattle.std.specs.List.{filter, onto_first, prefix_len, suffix_len}
+use Rattle.std.specs.List.{filter, list_all, onto_first, prefix_len, suffix_len}
+use Rattle.std.specs.Str.{is_utf8}
 use Rattle.kc_text.specs.declared.kind.Kind.{Kind}
 use Rattle.kc_text.specs.declared.kind.Kind.TheVariants.{NotANumber, MissingField, ExtraField, NumberTooLarge, LoopInBatch, UpdateOutsideBatch}
 use Rattle.kc_text.specs.declared.kind.Kind.TheVariants.{EdgeLineInBatch, TooManyVertices, TooManyEdgeLines, TooManyUpdates, TooManyBatches, TooLong}
@@ -10,6 +11,8 @@ use Rattle.kc_text.specs.Lines.{is_blank, is_not_empty}
 use Rattle.kc_dialect.specs.declared.bad_line.BadField.{BadField}
 use Rattle.kc_dialect.specs.declared.bad_line.BadKind.{BadKind}
 use Rattle.kc_dialect.specs.declared.bad_line.BadKind.TheVariants as wrong
+use Rattle.kc_dialect.specs.declared.dialect.Ids.{Ids}
+use Rattle.kc_dialect.specs.declared.dialect.Ids.TheVariants.{Numbers, Names}
 use Rattle.kc_dialect.specs.declared.dialect.Separator.{Separator}
 use Rattle.kc_dialect.specs.declared.dialect.Separator.TheVariants.{Blank, Comma, Semicolon, Tab}
 
@@ -116,3 +119,25 @@ checked_in end (Some field) = checked field (number field.1)
 -- the bytes of the number in a column of a line, or what is wrong there
 abbrev pub number_in_column : Separator → ℕ → List ℕ → Result (List ℕ) BadField
 number_in_column separator column line = checked_in (length line) (in_column column (fields_in separator line))
+
+-- a byte of a name: no blank, and no control character
+abbrev pub is_name_byte : ℕ → Bool
+is_name_byte b = nat_lt 32 b && not (b == 127)
+
+-- whether a field is a name: text of UTF-8 without blanks and control characters
+abbrev pub is_name : List ℕ → Bool
+is_name field = is_not_empty field && (list_all is_name_byte field && is_utf8 field)
+
+-- the bytes of a field that is a name, or what is wrong in its column, which may be behind the end of the line
+abbrev pub named_in : ℕ → Option (ℕ × List ℕ) → Result (List ℕ) BadField
+named_in end None = Err (record { column = end + 1; kind = wrong.MissingColumn })
+named_in end (Some field) = if is_name field.1 then Ok field.1 else Err (record { column = field.0 + 1; kind = wrong.NotAName })
+
+-- the bytes of the name in a column of a line, or what is wrong there
+abbrev pub name_in_column : Separator → ℕ → List ℕ → Result (List ℕ) BadField
+name_in_column separator column line = named_in (length line) (in_column column (fields_in separator line))
+
+-- the bytes of the id in a column of a line, or what is wrong there
+abbrev pub id_in_column : Ids → Separator → ℕ → List ℕ → Result (List ℕ) BadField
+id_in_column Numbers separator column line = number_in_column separator column line
+id_in_column Names separator column line = name_in_column separator column line

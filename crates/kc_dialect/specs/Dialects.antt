@@ -6,7 +6,7 @@ use Rattle.kc_text.specs.Lines.{fields, lines}
 use Rattle.kc_dialect.specs.declared.bad_line.BadField.{BadField}
 use Rattle.kc_dialect.specs.declared.bad_line.BadLine.{BadLine}
 use Rattle.kc_dialect.specs.declared.dialect.Dialect.{Dialect}
-use Rattle.kc_dialect.specs.Columns.{number_in_column}
+use Rattle.kc_dialect.specs.Columns.{id_in_column}
 
 -- a line of these fields, between blanks, says nothing: it is blank or a comment
 abbrev pub says_nothing : List (List ℕ) → Bool
@@ -17,17 +17,17 @@ says_nothing (first ∷ rest) = is_comment first
 abbrev pub without_mark : List ℕ → List ℕ
 without_mark bytes = if slice_index bytes 0 == 239 && (slice_index bytes 1 == 187 && slice_index bytes 2 == 191) then drop 3 bytes else bytes
 
--- both of two numbers, or the first that is wrong
+-- both of two ids, or the first that is wrong
 abbrev pub both : Result (List ℕ) BadField → Result (List ℕ) BadField → Result (Option (List ℕ × List ℕ)) BadField
 both (Err bad) second = Err bad
 both (Ok a) (Err bad) = Err bad
 both (Ok a) (Ok b) = Ok (Some (a, b))
 
--- the two numbers of a line as they stand, none where it says nothing, or the first column that is wrong
+-- the two ids of a line as they stand, none where it says nothing, or the first column that is wrong
 abbrev pub pair_in : Dialect → List ℕ → Result (Option (List ℕ × List ℕ)) BadField
 pair_in dialect line =
     if says_nothing (fields line) then Ok None
-    else both (number_in_column dialect.separator dialect.columns.0 line) (number_in_column dialect.separator dialect.columns.1 line)
+    else both (id_in_column dialect.ids dialect.separator dialect.columns.0 line) (id_in_column dialect.ids dialect.separator dialect.columns.1 line)
 
 -- what a line says behind so many others: the lines at the top say nothing, and a mark in front of the first is no part of it
 abbrev pub said_after : Dialect → ℕ → List ℕ → Result (Option (List ℕ × List ℕ)) BadField
@@ -35,7 +35,7 @@ said_after dialect before line =
     if nat_lt before dialect.skip then Ok None
     else pair_in dialect (if before == 0 then without_mark line else line)
 
--- the plain line of a line, with its end: the two numbers with a space between them, or an empty line
+-- the plain line of a line, with its end: the two ids with a space between them, or an empty line
 abbrev pub plain_line : Result (Option (List ℕ × List ℕ)) BadField → List ℕ
 plain_line (Ok None) = 10 ∷ []
 plain_line (Ok (Some pair)) = pair.0 ++ 32 ∷ (pair.1 ++ 10 ∷ [])

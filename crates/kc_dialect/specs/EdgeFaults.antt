@@ -9,11 +9,12 @@ use Rattle.kc_dialect.specs.declared.edge_faults.EdgeFault.{EdgeFault}
 use Rattle.kc_text.specs.declared.kind.Kind.{Kind}
 use Rattle.kc_text.specs.declared.kind.Kind.TheVariants.{ExtraField, MissingField, NotANumber, NumberTooLarge}
 
--- for which cause a line is refused that has such a field
+-- for which cause a line is refused that has such a field; what is no name is refused as what is no number
 abbrev pub kind_of_bad : BadKind → Kind
 kind_of_bad wrong.MissingColumn = MissingField
 kind_of_bad wrong.NotANumber = NotANumber
 kind_of_bad wrong.NumberTooLarge = NumberTooLarge
+kind_of_bad wrong.NotAName = NotANumber
 
 -- a field that is no number, or is not there
 abbrev pub wrong_field : BadField → EdgeFault

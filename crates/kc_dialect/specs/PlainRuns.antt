@@ -4,6 +4,7 @@ use Rattle.std.specs.List.{list_all}
 use Rattle.kc_text.specs.Forms.{is_digit}
 use Rattle.kc_text.specs.Lines.{lines}
 use Rattle.kc_dialect.specs.declared.dialect.Dialect.{Dialect}
+use Rattle.kc_dialect.specs.declared.dialect.Ids.TheVariants.{Numbers}
 use Rattle.kc_dialect.specs.declared.dialect.Separator.{Separator}
 use Rattle.kc_dialect.specs.Columns.{is_separator}
 use Rattle.kc_dialect.specs.Dialects.{bad_lines_after, plain_lines}
@@ -37,7 +38,7 @@ pub record BeginsPlainly (separator : Separator) (bytes : List ℕ) (n : ℕ) : 
 abbrev pub spaced : Separator → ℕ → ℕ
 spaced separator b = if is_separator separator b then 32 else b
 
--- Bytes begin with so many plain lines, which have so many bytes: in each dialect of the first two columns their plain lines are these bytes
+-- Bytes begin with so many plain lines, which have so many bytes: in each dialect of numbers in the first two columns their plain lines are these bytes
 -- with spaces, and none of them is bad.
 pub record BeginsWithRun (separator : Separator) (bytes : List ℕ) (n count : ℕ) : Type 0 where
   pub read : List (List ℕ)
@@ -45,5 +46,5 @@ pub record BeginsWithRun (separator : Separator) (bytes : List ℕ) (n count : �
   pub within : n ≤ length bytes
   pub counted : count ≡ length read
   pub fewer : count ≤ n
-  pub says : (d : Dialect) (before : ℕ) → d.separator ≡ separator → d.columns ≡ (1, 2) → d.skip ≤ before
+  pub says : (d : Dialect) (before : ℕ) → d.separator ≡ separator → d.columns ≡ (1, 2) → d.ids ≡ Numbers → d.skip ≤ before
       → (plain_lines d before read ≡ map (spaced separator) (take n bytes)) × (bad_lines_after d before read ≡ [])

@@ -1,4 +1,4 @@
--- What the lines of a text in a dialect say, as lines of a plain text.
+-- What the lines of a text in a dialect of numbers say, as lines of a plain text.
 use Rattle.std.specs.Prelude.{◌+◌, ℕ, List, [], ◌∷◌, Option, Some, None, Result, Ok, Err}
 use Rattle.kc_text.specs.declared.line.TextLine.{TextLine}
 use Rattle.kc_text.specs.declared.line.TextLine.TheVariants.{Nothing, Edge}
@@ -19,6 +19,6 @@ abbrev pub sayings : Dialect → ℕ → List (List ℕ) → List TextLine
 sayings dialect before [] = []
 sayings dialect before (line ∷ rest) = saying (said_after dialect before line) ∷ sayings dialect (before + 1) rest
 
--- what each line of a text in a dialect says
+-- what each line of a text in a dialect of numbers says
 abbrev pub said_in : Dialect → List ℕ → List TextLine
 said_in dialect bytes = sayings dialect 0 (lines bytes)

@@ -1,14 +1,16 @@
-//! A line that has no number in one of the columns of a dialect.
+//! A line that has no id in one of the columns of a dialect.
 
 /// What is wrong with the field that a column of a dialect names.
 #[derive(Clone, Copy, Debug, PartialEq, Eq)]
 pub enum BadKind {
     /// The line ends before the column.
     MissingColumn,
-    /// The field is empty, or has a byte that is no decimal digit.
+    /// Numbers are wanted, and the field is empty or has a byte that is no decimal digit.
     NotANumber,
     /// The number is 2^32 or more.
     NumberTooLarge,
+    /// Names are wanted, and the field is empty, is no UTF-8, or has a blank or a control character.
+    NotAName,
 }
 
 /// The first field of a line that is wrong.

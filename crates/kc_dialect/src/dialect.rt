@@ -13,7 +13,16 @@ pub enum Separator {
     Tab,
 }
 
-/// What becomes of a line that lacks a number in one of the columns.
+/// What the two ids of a line are.
+#[derive(Clone, Copy, Debug, PartialEq, Eq)]
+pub enum Ids {
+    /// Whole numbers below 2^32, of decimal digits.
+    Numbers,
+    /// Names: text of UTF-8 without blanks and control characters. Two names are one where their bytes are the same.
+    Names,
+}
+
+/// What becomes of a line that lacks an id in one of the columns.
 #[derive(Clone, Copy, Debug, PartialEq, Eq)]
 pub enum BadLines {
     /// The first of them ends the reading.
@@ -31,6 +40,7 @@ pub struct Dialect {
     /// How many lines at the top say nothing, as a header does.
     pub skip: u64,
     pub bad_lines: BadLines,
+    pub ids: Ids,
 }
 
 impl Dialect {
@@ -40,5 +50,6 @@ impl Dialect {
         separator: Separator::Blank,
         skip: 0,
         bad_lines: BadLines::Stop,
+        ids: Ids::Numbers,
     };
 }

@@ -15,13 +15,13 @@ pub struct EdgeFault {
     pub kind: Kind,
 }
 
-/// The kind for which a line is refused that has such a field.
+/// The kind for which a line is refused that has such a field. What is no name has the kind of what is no number: the field is no id.
 pub fn kind_of_bad(kind: BadKind) -> Kind
     ensures { result ≡ kind_of_bad kind }
 {
     match kind {
         BadKind::MissingColumn => Kind::MissingField,
-        BadKind::NotANumber => Kind::NotANumber,
+        BadKind::NotANumber | BadKind::NotAName => Kind::NotANumber,
         BadKind::NumberTooLarge => Kind::NumberTooLarge,
     }
 }

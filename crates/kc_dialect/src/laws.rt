@@ -5,13 +5,15 @@ ghost use Rattle.kc_text.specs.Lines.{EndsLine, lines};
 ghost use Rattle.kc_text.specs.Meaning.{Means, Told, meaning};
 ghost use Rattle.kc_text.specs.declared.limits.Limits.{Limits};
 ghost use Rattle.kc_dialect.specs.declared.dialect.Dialect.{Dialect};
+ghost use Rattle.kc_dialect.specs.declared.dialect.Ids.TheVariants.{Numbers};
 ghost use Rattle.kc_dialect.specs.declared.dialect.TheConstants.Dialect.{PLAIN};
 ghost use Rattle.kc_dialect.specs.Dialects.{bad_lines, bad_lines_after, plain_lines, plain_text};
 ghost use Rattle.kc_dialect.specs.Sayings.{said_in};
 
-/// The plain text says line by line what the lines say in their dialect: the edge between the two numbers, or nothing.
+/// Where ids are numbers, the plain text says line by line what the lines say in their dialect: the edge between the two numbers, or
+/// nothing.
 pub fn a_plain_text_says_what_its_lines_say()
-    ensures { (dialect : Dialect) (bytes : List ℕ) → all_said (plain_text dialect bytes) ≡ said_in dialect bytes }
+    ensures { (dialect : Dialect) (bytes : List ℕ) → dialect.ids ≡ Numbers → all_said (plain_text dialect bytes) ≡ said_in dialect bytes }
 {}
 
 /// A text of a graph that means something without batches says the same, line by line, in the plain dialect, and no line of it is bad

@@ -1,10 +1,10 @@
 //! Edge lists as people hold them, rewritten as the plain text that `kc_text` reads.
 //!
 //! A [`Dialect`] says how the lines are to be read: which columns hold the two ids, what parts the fields, how many lines at the top say
-//! nothing, and whether bad lines end the reading or are passed over. A text in a dialect stands for a plain text: each line for one line
-//! of the two numbers as they stand, or for an empty one where it says nothing. So line numbers stay, and whatever is promised of a plain
-//! text is promised of the text that stands for it. `specs/Dialects` defines both that text and the bad lines, and `specs/Columns` the
-//! fields of a line.
+//! nothing, whether bad lines end the reading or are passed over, and whether the ids are numbers or names. A text in a dialect stands for
+//! a plain text: each line for one line of the two ids as they stand, or for an empty one where it says nothing. So line numbers stay, and
+//! whatever is promised of a plain text is promised of the text that stands for it. Where the ids are names, `kc_names` numbers them in the
+//! plain text. `specs/Dialects` defines both that text and the bad lines, and `specs/Columns` the fields of a line.
 //!
 //! [`Rewriter`] does this with a text that comes in pieces, cut anywhere. [`signature_of`] tells by the first bytes of a file what no
 //! dialect reads: compressed files, UTF-16, and the matrices of MatrixMarket. [`separator_of_name`] tells the separator from a file's name,
@@ -20,6 +20,7 @@ mod columns;
 mod dialect;
 mod edge_faults;
 mod fault;
+mod ids;
 pub mod laws;
 mod line_rewriter;
 mod names;
@@ -30,7 +31,7 @@ mod signatures;
 mod skipped;
 
 pub use bad_line::{BadField, BadKind, BadLine};
-pub use dialect::{BadLines, Dialect, Separator};
+pub use dialect::{BadLines, Dialect, Ids, Separator};
 pub use edge_faults::{EdgeFault, edge_fault, kind_of_bad};
 pub use fault::RewriteFault;
 pub use names::separator_of_name;

@@ -2,13 +2,14 @@
 ghost use Rattle.std.specs.Prelude.{◌++◌, IfOk, IsTrue, ◌≡◌, ◌≢◌, ◌∷◌, ◌≤◌, ◌<◌, ◌+◌, ◌^◌, [], Err, List, ℕ, IsErrOf, OnOk, length};
 ghost use Rattle.kc_text.specs.Lines.{lines};
 ghost use Rattle.kc_dialect.specs.declared.bad_line.BadLine.{BadLine};
+ghost use Rattle.kc_dialect.specs.declared.dialect.Ids.TheVariants.{Numbers};
 ghost use Rattle.kc_dialect.specs.declared.fault.RewriteFault.TheVariants.{Bad, TooLong};
 ghost use Rattle.kc_dialect.specs.Dialects.{said_after};
 ghost use Rattle.kc_dialect.specs.Skipped.{AreSkipped};
 ghost use Rattle.kc_dialect.specs.Steps.{TookLines, StopsAt};
 
 use crate::bad_line::{BadField, BadLine};
-use crate::dialect::{BadLines, Dialect};
+use crate::dialect::{BadLines, Dialect, Ids};
 use crate::fault::RewriteFault;
 use crate::pairs::{said_after, write_plain};
 use crate::plain_runs::{plain_run, write_spaced};
@@ -84,20 +85,23 @@ impl LineRewriter {
         }
     }
 
-    /// Whether plain lines may be copied: their first two columns are taken, and none is skipped.
+    /// Whether plain lines may be copied: the numbers of their first two columns are taken, and none is skipped.
     fn copies(&self) -> bool
         ensures columns { IsTrue result → self.now.dialect.columns ≡ (1, 2) }
         ensures skip { IsTrue result → self.now.dialect.skip ≤ self.now.lines }
+        ensures ids { IsTrue result → self.now.dialect.ids ≡ Numbers }
     {
         self.dialect.columns.0 == 1
             && self.dialect.columns.1 == 2
             && self.dialect.skip <= self.lines
+            && self.dialect.ids == Ids::Numbers
     }
 
     /// Copies the plain lines at the front of some bytes, and gives what follows them.
     fn copy_run<'a>(&mut self, bytes: &'a [u8], out: &mut Vec<u8>) -> Result<&'a [u8], NoMemory>
         requires columns { self.old.dialect.columns ≡ (1, 2) }
         requires skip { self.old.dialect.skip ≤ self.old.lines }
+        requires ids { self.old.dialect.ids ≡ Numbers }
         requires few { self.old.lines + length bytes.now < 2 ^ 64 }
         ensures read { IfOk result (λ rest. (read : List (List ℕ)) × TookLines self.old self.new out.old.items out.new.items read
             × (read ++ lines rest.now ≡ lines bytes.now)) }

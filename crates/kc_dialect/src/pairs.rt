@@ -4,8 +4,8 @@ ghost use Rattle.kc_text.specs.Lines.{fields};
 ghost use Rattle.kc_dialect.specs.Dialects.{said_after, pair_in, plain_line, says_nothing, without_mark};
 
 use crate::bad_line::BadField;
-use crate::columns::number_in_column;
 use crate::dialect::Dialect;
+use crate::ids::id_in_column;
 use kc_text::{NoMemory, cut_field};
 
 /// Two fields of a line as they stand.
@@ -35,7 +35,7 @@ pub fn without_mark(bytes: &[u8]) -> &[u8]
     }
 }
 
-/// The two numbers of a line, none where it says nothing, or the first column that is wrong.
+/// The two ids of a line, none where it says nothing, or the first column that is wrong.
 fn pair_in<'a>(dialect: &Dialect, line: &'a [u8]) -> Result<Option<Pair<'a>>, BadField>
     ensures { MatchResult result (λ said. MatchOption said (pair_in dialect.now line.now ≡ Ok None)
         (λ pair. pair_in dialect.now line.now ≡ Ok (Some (pair.0.now, pair.1.now)))) (λ bad. pair_in dialect.now line.now ≡ Err bad) }
@@ -43,8 +43,8 @@ fn pair_in<'a>(dialect: &Dialect, line: &'a [u8]) -> Result<Option<Pair<'a>>, Ba
     if says_nothing(line) {
         return Ok(None);
     }
-    let first = number_in_column(dialect.separator, dialect.columns.0, line)?;
-    let second = number_in_column(dialect.separator, dialect.columns.1, line)?;
+    let first = id_in_column(dialect.ids, dialect.separator, dialect.columns.0, line)?;
+    let second = id_in_column(dialect.ids, dialect.separator, dialect.columns.1, line)?;
     Ok(Some((first, second)))
 }
 
@@ -68,7 +68,7 @@ pub(crate) fn said_after<'a>(
     pair_in(dialect, line)
 }
 
-/// Writes the plain line of two numbers.
+/// Writes the plain line of two ids.
 fn write_pair(out: &mut Vec<u8>, first: &[u8], second: &[u8]) -> Result<(), NoMemory>
     ensures { OnOk result (out.new.items ≡ out.old.items ++ plain_line (Ok (Some (first.now, second.now)))) }
 {

@@ -1,5 +1,5 @@
 -- All lines of the text are of a graph, and so they say the same in the plain dialect.
-use Rattle.std.proofs.Common.{◌≡◌, ℕ, List, None, ap, ◌∙◌}
+use Rattle.std.proofs.Common.{◌≡◌, ℕ, List, None, ap, refl, ◌∙◌}
 use Rattle.kc_text.specs.declared.limits.Limits.{Limits}
 use Rattle.kc_text.specs.Forms.{all_said}
 use Rattle.kc_text.specs.Lines.{lines}
@@ -17,7 +17,7 @@ of-graph limits bytes told e none = lines-of-graph limits 0 nothing_told (all_sa
 -- the plain text says the same
 same-said : (limits : Limits) (bytes : List ℕ) (told : Told) → meaning limits bytes ≡ Means told → told.last ≡ None
     → all_said (plain_text PLAIN bytes) ≡ all_said bytes
-same-said limits bytes told e none = said-lines PLAIN 0 (lines bytes) ∙ sayings-same 0 (lines bytes) (of-graph limits bytes told e none)
+same-said limits bytes told e none = said-lines PLAIN 0 (lines bytes) refl ∙ sayings-same 0 (lines bytes) (of-graph limits bytes told e none)
 
 pub returns : goal.returns
 returns c = record {
