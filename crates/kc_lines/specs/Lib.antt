@@ -1,4 +1,5 @@
 -- What public contracts speak of.
 pub mod Fields
+pub mod Json
 pub mod Lines
 pub mod Pages

@@ -1,42 +1,44 @@
-//! A number of a line.
+//! A field of a line.
 ghost use Rattle.std.specs.Prelude.{◌≡◌};
+ghost use Rattle.kc_lines.specs.Fields.{labelled, label_of};
 
+use crate::value::Value;
 use std::marker::Model;
 
-/// A number of a line, and its name. The name is written as it is, so it has no quote, backslash or control character.
+/// A number or a name of a line, and the key of it. The key is written as it is, so it has no quote, backslash or control character.
 #[derive(Drop)]
-pub struct Field {
-    name: &'static str,
-    number: u64,
+pub struct Field<'a> {
+    key: &'static str,
+    value: Value<'a>,
 }
 
-impl Model for Field {
-    ghost use Rattle.kc_lines.specs.Fields.{NamedNumber};
+impl<'a> Model for Field<'a> {
+    ghost use Rattle.kc_lines.specs.Fields.{KeyedLabel, label_of, labelled};
 
-    ghost Value = { NamedNumber };
+    ghost Value = { KeyedLabel };
 
-    ghost view = { λ f. record { name = f.name.now; number = f.number } };
+    ghost view = { λ f. labelled f.key.now (label_of f.value) };
 }
 
-impl Field {
-    /// The number with its name.
-    pub fn new(name: &'static str, number: u64) -> Field
-        ensures { result ≡ record { name = name.now; number = number } }
+impl<'a> Field<'a> {
+    /// What the line has under this key.
+    pub fn new(key: &'static str, value: Value<'a>) -> Field<'a>
+        ensures { result ≡ labelled key.now (label_of value.entry) }
     {
-        Field { name, number }
+        Field { key, value }
     }
 
-    /// The name.
-    pub(crate) fn name(&self) -> &'static str
-        ensures { result.now ≡ self.now.name }
+    /// The key.
+    pub(crate) fn key(&self) -> &'static str
+        ensures { result.now ≡ self.now.key }
     {
-        self.name
+        self.key
     }
 
-    /// The number.
-    pub(crate) fn number(&self) -> u64
-        ensures { result ≡ self.now.number }
+    /// The number or the name.
+    pub(crate) fn value(&self) -> Value<'a>
+        ensures { label_of result ≡ self.now.label }
     {
-        self.number
+        self.value
     }
 }

@@ -1,13 +1,16 @@
-//! Lines of named numbers that are put behind a page.
+//! Lines of fields that are put behind a page.
 ghost use Rattle.std.specs.Prelude.{◌≡◌, ◌++◌, OnErr, OnOk, codes, decimal};
 ghost use Rattle.std.specs.List.{flat_map};
 ghost use Rattle.kc_io.specs.Causes.{HasCause};
-ghost use Rattle.kc_lines.specs.Lines.{ending, field_text, fields_text, key_text, later_text, line_text, opening, separator};
+ghost use Rattle.kc_lines.specs.Fields.{label_of};
+ghost use Rattle.kc_lines.specs.Lines.{ending, field_text, fields_text, key_text, label_text, later_text, line_text, opening, separator};
 ghost use Rattle.kc_lines.specs.Pages.{PassesOn, PassesPart};
 
 use crate::field::Field;
 use crate::format::Format;
+use crate::json::put_string;
 use crate::page::Page;
+use crate::value::Value;
 use itoa::Buffer;
 use kc_io::Failed;
 use kc_io::sink::Sink;
@@ -71,52 +74,70 @@ fn put_ending<O: Sink>(page: &mut Page, out: &mut O, format: Format) -> Result<(
     page.put(out, format.ending())
 }
 
-/// Puts the number of a field.
-fn put_number<O: Sink>(page: &mut Page, out: &mut O, field: &Field) -> Result<(), Failed>
-    ensures passes { OnOk result (PassesOn (O.taken out.old) (O.taken out.new) page.old page.new (decimal field.now.number)) }
-    ensures part { OnErr result (PassesPart (O.taken out.old) (O.taken out.new) page.old (decimal field.now.number)) }
+/// Puts a number.
+fn put_number<O: Sink>(page: &mut Page, out: &mut O, number: u64) -> Result<(), Failed>
+    ensures passes { OnOk result (PassesOn (O.taken out.old) (O.taken out.new) page.old page.new (decimal number)) }
+    ensures part { OnErr result (PassesPart (O.taken out.old) (O.taken out.new) page.old (decimal number)) }
     ensures cause { HasCause (O.faults out.old) (O.faults out.new) result }
 {
-    page.put(out, Buffer::new().format(field.number()).as_bytes())
+    page.put(out, Buffer::new().format(number).as_bytes())
 }
 
-/// Puts the name of a field.
-fn put_name<O: Sink>(page: &mut Page, out: &mut O, field: &Field) -> Result<(), Failed>
-    ensures passes { OnOk result (PassesOn (O.taken out.old) (O.taken out.new) page.old page.new field.now.name) }
-    ensures part { OnErr result (PassesPart (O.taken out.old) (O.taken out.new) page.old field.now.name) }
+/// Puts a number or a name.
+fn put_value<O: Sink>(
+    page: &mut Page,
+    out: &mut O,
+    format: Format,
+    value: Value<'_>,
+) -> Result<(), Failed>
+    ensures passes { OnOk result (PassesOn (O.taken out.old) (O.taken out.new) page.old page.new (label_text format (label_of value.entry))) }
+    ensures part { OnErr result (PassesPart (O.taken out.old) (O.taken out.new) page.old (label_text format (label_of value.entry))) }
     ensures cause { HasCause (O.faults out.old) (O.faults out.new) result }
 {
-    page.put(out, field.name().as_bytes())
+    match (format, value) {
+        (_, Value::Number(number)) => put_number(page, out, number),
+        (Format::Tabs, Value::Name(name)) => page.put(out, name),
+        (Format::Json, Value::Name(name)) => put_string(page, out, name),
+    }
 }
 
-/// Puts the name of a field, a quote and a colon.
-fn put_name_end<O: Sink>(page: &mut Page, out: &mut O, field: &Field) -> Result<(), Failed>
-    ensures passes { OnOk result (PassesOn (O.taken out.old) (O.taken out.new) page.old page.new (field.now.name ++ codes "\":")) }
-    ensures part { OnErr result (PassesPart (O.taken out.old) (O.taken out.new) page.old (field.now.name ++ codes "\":")) }
+/// Puts the key of a field.
+fn put_key_text<O: Sink>(page: &mut Page, out: &mut O, field: &Field<'_>) -> Result<(), Failed>
+    ensures passes { OnOk result (PassesOn (O.taken out.old) (O.taken out.new) page.old page.new field.now.key) }
+    ensures part { OnErr result (PassesPart (O.taken out.old) (O.taken out.new) page.old field.now.key) }
     ensures cause { HasCause (O.faults out.old) (O.faults out.new) result }
 {
-    put_name(page, out, field)?;
+    page.put(out, field.key().as_bytes())
+}
+
+/// Puts the key of a field, a quote and a colon.
+fn put_key_end<O: Sink>(page: &mut Page, out: &mut O, field: &Field<'_>) -> Result<(), Failed>
+    ensures passes { OnOk result (PassesOn (O.taken out.old) (O.taken out.new) page.old page.new (field.now.key ++ codes "\":")) }
+    ensures part { OnErr result (PassesPart (O.taken out.old) (O.taken out.new) page.old (field.now.key ++ codes "\":")) }
+    ensures cause { HasCause (O.faults out.old) (O.faults out.new) result }
+{
+    put_key_text(page, out, field)?;
     page.put(out, b"\":")
 }
 
-/// Puts the name of a field in quotes, and a colon.
-fn put_key<O: Sink>(page: &mut Page, out: &mut O, field: &Field) -> Result<(), Failed>
-    ensures passes { OnOk result (PassesOn (O.taken out.old) (O.taken out.new) page.old page.new (key_text field.now.name)) }
-    ensures part { OnErr result (PassesPart (O.taken out.old) (O.taken out.new) page.old (key_text field.now.name)) }
+/// Puts the key of a field in quotes, and a colon.
+fn put_key<O: Sink>(page: &mut Page, out: &mut O, field: &Field<'_>) -> Result<(), Failed>
+    ensures passes { OnOk result (PassesOn (O.taken out.old) (O.taken out.new) page.old page.new (key_text field.now.key)) }
+    ensures part { OnErr result (PassesPart (O.taken out.old) (O.taken out.new) page.old (key_text field.now.key)) }
     ensures cause { HasCause (O.faults out.old) (O.faults out.new) result }
 {
     page.put(out, b"\"")?;
-    put_name_end(page, out, field)
+    put_key_end(page, out, field)
 }
 
-/// Puts the number of a field with its name before it.
-fn put_member<O: Sink>(page: &mut Page, out: &mut O, field: &Field) -> Result<(), Failed>
+/// Puts what a field has with its key before it.
+fn put_member<O: Sink>(page: &mut Page, out: &mut O, field: &Field<'_>) -> Result<(), Failed>
     ensures passes { OnOk result (PassesOn (O.taken out.old) (O.taken out.new) page.old page.new (field_text Format.Json field.now)) }
     ensures part { OnErr result (PassesPart (O.taken out.old) (O.taken out.new) page.old (field_text Format.Json field.now)) }
     ensures cause { HasCause (O.faults out.old) (O.faults out.new) result }
 {
     put_key(page, out, field)?;
-    put_number(page, out, field)
+    put_value(page, out, Format::Json, field.value())
 }
 
 /// Puts a field.
@@ -124,14 +145,14 @@ fn put_field<O: Sink>(
     page: &mut Page,
     out: &mut O,
     format: Format,
-    field: &Field,
+    field: &Field<'_>,
 ) -> Result<(), Failed>
     ensures passes { OnOk result (PassesOn (O.taken out.old) (O.taken out.new) page.old page.new (field_text format field.now)) }
     ensures part { OnErr result (PassesPart (O.taken out.old) (O.taken out.new) page.old (field_text format field.now)) }
     ensures cause { HasCause (O.faults out.old) (O.faults out.new) result }
 {
     match format {
-        Format::Tabs => put_number(page, out, field),
+        Format::Tabs => put_value(page, out, Format::Tabs, field.value()),
         Format::Json => put_member(page, out, field),
     }
 }
@@ -141,7 +162,7 @@ fn put_later<O: Sink>(
     page: &mut Page,
     out: &mut O,
     format: Format,
-    field: &Field,
+    field: &Field<'_>,
 ) -> Result<(), Failed>
     ensures passes { OnOk result (PassesOn (O.taken out.old) (O.taken out.new) page.old page.new (later_text format field.now)) }
     ensures part { OnErr result (PassesPart (O.taken out.old) (O.taken out.new) page.old (later_text format field.now)) }
@@ -156,7 +177,7 @@ fn put_later_fields<O: Sink>(
     page: &mut Page,
     out: &mut O,
     format: Format,
-    fields: &[Field],
+    fields: &[Field<'_>],
 ) -> Result<(), Failed>
     ensures passes { OnOk result (PassesOn (O.taken out.old) (O.taken out.new) page.old page.new (flat_map (later_text format) fields.now)) }
     ensures part { OnErr result (PassesPart (O.taken out.old) (O.taken out.new) page.old (flat_map (later_text format) fields.now)) }
@@ -173,7 +194,7 @@ fn put_fields<O: Sink>(
     page: &mut Page,
     out: &mut O,
     format: Format,
-    fields: &[Field],
+    fields: &[Field<'_>],
 ) -> Result<(), Failed>
     ensures passes { OnOk result (PassesOn (O.taken out.old) (O.taken out.new) page.old page.new (fields_text format fields.now)) }
     ensures part { OnErr result (PassesPart (O.taken out.old) (O.taken out.new) page.old (fields_text format fields.now)) }
@@ -191,7 +212,7 @@ fn put_ended<O: Sink>(
     page: &mut Page,
     out: &mut O,
     format: Format,
-    fields: &[Field],
+    fields: &[Field<'_>],
 ) -> Result<(), Failed>
     ensures passes { OnOk result (PassesOn (O.taken out.old) (O.taken out.new) page.old page.new (fields_text format fields.now ++ ending format)) }
     ensures part { OnErr result (PassesPart (O.taken out.old) (O.taken out.new) page.old (fields_text format fields.now ++ ending format)) }
@@ -211,18 +232,19 @@ fn put_ended<O: Sink>(
 /// use kc_lines::format::Format;
 /// use kc_lines::lines::put_line;
 /// use kc_lines::page::Page;
+/// use kc_lines::value::Value;
 ///
 /// let mut page = Page::new(alloc)?;
-/// let fields = [Field::new("id", 7), Field::new("core", 2)];
-/// put_line(&mut page, &mut out, Format::Tabs, &fields)?; // 7<TAB>2
-/// put_line(&mut page, &mut out, Format::Json, &fields)?; // {"id":7,"core":2}
+/// let fields = [Field::new("id", Value::Name(b"Ann")), Field::new("core", Value::Number(2))];
+/// put_line(&mut page, &mut out, Format::Tabs, &fields)?; // Ann<TAB>2
+/// put_line(&mut page, &mut out, Format::Json, &fields)?; // {"id":"Ann","core":2}
 /// page.write(&mut out)?;
 /// ```
 pub fn put_line<O: Sink>(
     page: &mut Page,
     out: &mut O,
     format: Format,
-    fields: &[Field],
+    fields: &[Field<'_>],
 ) -> Result<(), Failed>
     ensures passes { OnOk result (PassesOn (O.taken out.old) (O.taken out.new) page.old page.new (line_text format fields.now)) }
     ensures part { OnErr result (PassesPart (O.taken out.old) (O.taken out.new) page.old (line_text format fields.now)) }

@@ -3,7 +3,7 @@ use Rattle.std.proofs.Common.{ℕ, List, subst, sym}
 use Rattle.std.specs.List.{flat_map}
 use Rattle.std.specs.Prelude.{OnErr, OnOk}
 use Rattle.std.proofs.lemmas.Result.{on_err_weaker, on_ok_weaker}
-use Rattle.kc_lines.specs.Fields.{NamedNumber}
+use Rattle.kc_lines.specs.Fields.{KeyedLabel}
 use Rattle.kc_lines.specs.Lines.{field_text, fields_text, later_text}
 use Rattle.kc_lines.specs.Pages.{PassesOn, PassesPart}
 use Rattle.kc_lines.proofs.Paging.{PassesOn-trans, PassesPart-later}
@@ -13,7 +13,7 @@ pub returns-clause-passes : goal.returns-clause-passes
 returns-clause-passes g c =
     let first : List ℕ = field_text c.args.format c.in-Some.first.now in
     let later : List ℕ = flat_map (later_text c.args.format) c.in-Some.later.now in
-    subst (λ (xs : List NamedNumber). OnOk c.put_later_fields.result (PassesOn (g.O.Sink.taken c.args.out.now)
+    subst (λ (xs : List KeyedLabel). OnOk c.put_later_fields.result (PassesOn (g.O.Sink.taken c.args.out.now)
     (g.O.Sink.taken c.put_later_fields.new.out) c.args.page.now c.put_later_fields.new.page (fields_text c.args.format xs)))
     (sym c.in-Some.ensures.cases.0)
     (on_ok_weaker c.put_later_fields.result (λ last.
@@ -24,7 +24,7 @@ pub returns-clause-part : goal.returns-clause-part
 returns-clause-part g c =
     let first : List ℕ = field_text c.args.format c.in-Some.first.now in
     let later : List ℕ = flat_map (later_text c.args.format) c.in-Some.later.now in
-    subst (λ (xs : List NamedNumber). OnErr c.put_later_fields.result (PassesPart (g.O.Sink.taken c.args.out.now)
+    subst (λ (xs : List KeyedLabel). OnErr c.put_later_fields.result (PassesPart (g.O.Sink.taken c.args.out.now)
     (g.O.Sink.taken c.put_later_fields.new.out) c.args.page.now (fields_text c.args.format xs)))
     (sym c.in-Some.ensures.cases.0)
     (on_err_weaker c.put_later_fields.result (λ last.

@@ -7,17 +7,17 @@ use Rattle.kc_lines.proofs.lines.put_key.Goals as goal
 
 pub returns-in_err-put-clause-part : goal.returns-in_err-put-clause-part
 returns-in_err-put-clause-part g c =
-    on_err-anyhow c.from_residual.result (PassesPart-wider _ _ c.args.page.now (34 ∷ []) (c.args.field.now.name ++ codes "\":") c.in_err-put.ensures.part)
+    on_err-anyhow c.from_residual.result (PassesPart-wider _ _ c.args.page.now (34 ∷ []) (c.args.field.now.key ++ codes "\":") c.in_err-put.ensures.part)
 
 pub returns-clause-passes : goal.returns-clause-passes
 returns-clause-passes g c =
-    on_ok_weaker c.put_name_end.result (λ last.
-    PassesOn-trans _ _ _ c.args.page.now c.put.new.self c.put_name_end.new.page (34 ∷ []) (c.args.field.now.name ++ codes "\":")
+    on_ok_weaker c.put_key_end.result (λ last.
+    PassesOn-trans _ _ _ c.args.page.now c.put.new.self c.put_key_end.new.page (34 ∷ []) (c.args.field.now.key ++ codes "\":")
     c.in_ok-put.ensures.passes last)
-    c.put_name_end.ensures.passes
+    c.put_key_end.ensures.passes
 
 pub returns-clause-part : goal.returns-clause-part
 returns-clause-part g c =
-    on_err_weaker c.put_name_end.result (λ last.
-    PassesPart-later _ _ _ c.args.page.now c.put.new.self (34 ∷ []) (c.args.field.now.name ++ codes "\":") c.in_ok-put.ensures.passes last)
-    c.put_name_end.ensures.part
+    on_err_weaker c.put_key_end.result (λ last.
+    PassesPart-later _ _ _ c.args.page.now c.put.new.self (34 ∷ []) (c.args.field.now.key ++ codes "\":") c.in_ok-put.ensures.passes last)
+    c.put_key_end.ensures.part

@@ -2,7 +2,7 @@
 use Rattle.std.proofs.Common.{◌∙◌, ℕ, List, ap, arith, drop, suc, subst, sym, take, take_all}
 use Rattle.std.specs.List.{flat_map}
 use Rattle.kc_lists.proofs.Results.{on_err-anyhow}
-use Rattle.kc_lines.specs.Fields.{NamedNumber}
+use Rattle.kc_lines.specs.Fields.{KeyedLabel}
 use Rattle.kc_lines.specs.Lines.{later_text}
 use Rattle.kc_lines.specs.Pages.{PassesOn, PassesPart}
 use Rattle.kc_lines.proofs.Paging.{PassesOn-trans, PassesPart-later, PassesPart-wider}
@@ -11,9 +11,9 @@ use Rattle.kc_lines.proofs.lines.put_later_fields.Goals as goal
 
 pub loop-field-preserved : goal.loop-field-preserved
 loop-field-preserved g c =
-    let text : NamedNumber → List ℕ = later_text c.args.format in
+    let text : KeyedLabel → List ℕ = later_text c.args.format in
     let i : ℕ = c.loop-field.field-index in
-    let x : NamedNumber = c.field-item.result in
+    let x : KeyedLabel = c.field-item.result in
     record {
       passes = subst (PassesOn (g.O.Sink.taken c.args.out.now) (g.O.Sink.taken c.put_later.new.out) c.args.page.now c.put_later.new.page)
           (sym (flat_map-turn text c.args.fields.now i x c.loop-field-test.true c.field-item.is))
@@ -24,9 +24,9 @@ loop-field-preserved g c =
 
 pub returns-in_err-put_later-clause-part : goal.returns-in_err-put_later-clause-part
 returns-in_err-put_later-clause-part g c =
-    let text : NamedNumber → List ℕ = later_text c.args.format in
+    let text : KeyedLabel → List ℕ = later_text c.args.format in
     let i : ℕ = c.loop-field.field-index in
-    let x : NamedNumber = c.field-item.result in
+    let x : KeyedLabel = c.field-item.result in
     on_err-anyhow c.from_residual.result
     (subst (PassesPart (g.O.Sink.taken c.args.out.now) (g.O.Sink.taken c.put_later.new.out) c.args.page.now)
     (flat_map-parts text c.args.fields.now i x c.loop-field-test.true c.field-item.is)

@@ -1,0 +1,22 @@
+-- One text goes on after another.
+use Rattle.std.proofs.Common.{codes}
+use Rattle.std.proofs.lemmas.Result.{on_err_weaker, on_ok_weaker}
+use Rattle.kc_lists.proofs.Results.{on_err-anyhow}
+use Rattle.kc_lines.proofs.Paging.{PassesOn-trans, PassesPart-later, PassesPart-wider}
+use Rattle.kc_lines.proofs.lines.put_key_end.Goals as goal
+
+pub returns-in_err-put_key_text-clause-part : goal.returns-in_err-put_key_text-clause-part
+returns-in_err-put_key_text-clause-part g c =
+    on_err-anyhow c.from_residual.result (PassesPart-wider _ _ c.args.page.now (c.args.field.now.key) (codes "\":") c.in_err-put_key_text.ensures.part)
+
+pub returns-clause-passes : goal.returns-clause-passes
+returns-clause-passes g c =
+    on_ok_weaker c.put.result (λ last.
+    PassesOn-trans _ _ _ c.args.page.now c.put_key_text.new.page c.put.new.self (c.args.field.now.key) (codes "\":") c.in_ok-put_key_text.ensures.passes last)
+    c.put.ensures.passes
+
+pub returns-clause-part : goal.returns-clause-part
+returns-clause-part g c =
+    on_err_weaker c.put.result (λ last.
+    PassesPart-later _ _ _ c.args.page.now c.put_key_text.new.page (c.args.field.now.key) (codes "\":") c.in_ok-put_key_text.ensures.passes last)
+    c.put.ensures.part
