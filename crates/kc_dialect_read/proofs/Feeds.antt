@@ -5,8 +5,10 @@ use Rattle.std.specs.Prelude.{is_some}
 use Rattle.kc_dialect.specs.Rewritten.{HasFirstBad, HasRewritten}
 use Rattle.kc_dialect.specs.declared.bad_line.BadLine.{BadLine}
 use Rattle.kc_dialect.specs.declared.dialect.Dialect.{Dialect}
-use Rattle.kc_text.specs.Feeding as text
+use Rattle.kc_names.specs.Reading.{WasFedIds}
+use Rattle.kc_text.specs.Lines.{EndsLine}
 use Rattle.kc_text.specs.declared.limits.TheConstants.Limits.{GRAPH}
+use Rattle.kc_dialect.proofs.Ends.{written-ends}
 use Rattle.kc_dialect_read.specs.Reading.{Rewrites, WasGiven, WasGivenTill, WasGivenWithin}
 use Rattle.kc_dialect_read.specs.declared.plain_reader.PlainReader.{PlainReader}
 use Rattle.kc_dialect_read.specs.declared.reader.DialectReader.{DialectReader}
@@ -14,13 +16,14 @@ use Rattle.kc_dialect_read.specs.declared.reader.DialectReader.{DialectReader}
 -- what a piece was rewritten to was read
 pub Rewrites-more : (old new : PlainReader) (fed piece added : List ℕ)
     → ((f w : List ℕ) → HasRewritten old.rewriter f w → HasRewritten new.rewriter (f ++ piece) (w ++ added))
-    → ((f : List ℕ) → text.WasFed old.reader f → text.WasFed new.reader (f ++ added))
-    → new.rewriter.lines.dialect ≡ old.rewriter.lines.dialect → new.reader.limits ≡ old.reader.limits → new.dialect ≡ old.dialect
+    → ((f : List ℕ) → EndsLine f → WasFedIds old.dialect.ids old.reader f → WasFedIds old.dialect.ids new.reader (f ++ added))
+    → new.rewriter.lines.dialect ≡ old.rewriter.lines.dialect → new.reader.reader.limits ≡ old.reader.reader.limits → new.dialect ≡ old.dialect
     → Rewrites old fed → Rewrites new (fed ++ piece)
 Rewrites-more old new fed piece added rewrites reads dialect limits same r = record {
   written = r.written ++ added;
   rewritten = rewrites fed r.written r.rewritten;
-  read = reads r.written r.read;
+  read = subst (λ (d : Dialect). WasFedIds d.ids new.reader (r.written ++ added)) (sym same)
+      (reads r.written (written-ends old.rewriter fed r.written r.rewritten) r.read);
   dialect = dialect ∙ r.dialect ∙ sym same;
   limits = limits ∙ r.limits;
 }

@@ -5,7 +5,7 @@ use Rattle.std.proofs.lemmas.Bool.{le-ltb}
 use Rattle.std.specs.Io.KnownBytes.{Consumes, IsAtEnd}
 use Rattle.std.proofs.KnownBytes.{Consumes-all, Consumes-whole}
 use Rattle.std.specs.Prelude.{option_map}
-use Rattle.kc_dialect.specs.Dialects.{bad_lines, plain_text}
+use Rattle.kc_dialect.specs.Dialects.{bad_lines}
 use Rattle.kc_dialect.specs.EdgeFaults.{kind_of_bad}
 use Rattle.kc_dialect.specs.Rewritten.{HasFirstBad}
 use Rattle.kc_dialect.specs.Skipped.{AreSkipped}
@@ -18,7 +18,7 @@ use Rattle.kc_text.specs.Meaning.{Meaning, Means, Refuses, Told, meaning}
 use Rattle.kc_text.specs.declared.kind.Kind.TheVariants.{TooLong}
 use Rattle.kc_text.specs.declared.limits.TheConstants.Limits.{GRAPH}
 use Rattle.kc_text.specs.declared.refusal.Refusal.{Refusal}
-use Rattle.kc_dialect_read.specs.Meanings.{IsRefusedAt, bad_column, dialect_meaning, first_stopping, stopping_line, unless_stopped}
+use Rattle.kc_dialect_read.specs.Meanings.{IsRefusedAt, bad_column, dialect_meaning, first_stopping, names_told, numbers_in, stopping_line, unless_stopped}
 use Rattle.kc_dialect_read.specs.Reading.{AreEdgesIn}
 use Rattle.kc_dialect_read.specs.declared.fault.PlacedRefusal.{PlacedRefusal}
 use Rattle.kc_dialect_read.specs.declared.plain_reader.DialectEdges.{DialectEdges}
@@ -31,7 +31,7 @@ too_long = record { refusal = record { line = 0; kind = TooLong }; column = None
 pub refused-long : (dialect : Dialect) (bytes : List ℕ) → GRAPH.bytes < length bytes → IsRefusedAt dialect bytes too_long
 unfolding dialect_meaning bad_column
 refused-long dialect bytes long = (
-  ap (λ b. cond b (Refuses 0 TooLong) (unless_stopped (stopping_line dialect bytes) (meaning GRAPH (plain_text dialect bytes))))
+  ap (λ b. cond b (Refuses 0 TooLong) (unless_stopped (stopping_line dialect bytes) (meaning GRAPH (numbers_in dialect bytes))))
       (lt-ltb GRAPH.bytes (length bytes) long),
   sym (ap (λ b. cond b None (option_map (λ (bad : BadLine). bad.column) (stopping_line dialect bytes))) (lt-ltb GRAPH.bytes (length bytes) long)),
 )
@@ -48,9 +48,9 @@ pub refused-bad : (dialect : Dialect) (bytes : List ℕ) (bad : BadLine) → len
 unfolding dialect_meaning bad_column
 refused-bad dialect bytes bad fits (stops, first) =
     let here : stopping_line dialect bytes ≡ Some bad = stopping-first dialect.bad_lines (bad_lines dialect bytes) bad stops first in (
-      ap (λ b. cond b (Refuses 0 TooLong) (unless_stopped (stopping_line dialect bytes) (meaning GRAPH (plain_text dialect bytes))))
+      ap (λ b. cond b (Refuses 0 TooLong) (unless_stopped (stopping_line dialect bytes) (meaning GRAPH (numbers_in dialect bytes))))
           (le-ltb GRAPH.bytes (length bytes) fits)
-          ∙ ap (λ (s : Option BadLine). unless_stopped s (meaning GRAPH (plain_text dialect bytes))) here,
+          ∙ ap (λ (s : Option BadLine). unless_stopped s (meaning GRAPH (numbers_in dialect bytes))) here,
       sym (ap (λ b. cond b None (option_map (λ (bad : BadLine). bad.column) (stopping_line dialect bytes))) (le-ltb GRAPH.bytes (length bytes) fits)
           ∙ ap (option_map (λ (bad : BadLine). bad.column)) here),
     )
@@ -68,19 +68,19 @@ stopping-none : (how : BadLines) (all : List BadLine) → (how ≡ Stop → all 
 stopping-none Stop all none = ap (first_stopping Stop) (none refl)
 stopping-none Skip all none = refl
 
--- a text in which no bad line ends the reading means what its plain text means
+-- a text in which no bad line ends the reading means what its text of numbers means
 pub meaning-unstopped : (dialect : Dialect) (bytes : List ℕ) (m : Meaning) → length bytes ≤ GRAPH.bytes
-    → (dialect.bad_lines ≡ Stop → bad_lines dialect bytes ≡ []) → meaning GRAPH (plain_text dialect bytes) ≡ m → dialect_meaning dialect bytes ≡ m
+    → (dialect.bad_lines ≡ Stop → bad_lines dialect bytes ≡ []) → meaning GRAPH (numbers_in dialect bytes) ≡ m → dialect_meaning dialect bytes ≡ m
 unfolding dialect_meaning
 meaning-unstopped dialect bytes m fits none is =
-    ap (λ b. cond b (Refuses 0 TooLong) (unless_stopped (stopping_line dialect bytes) (meaning GRAPH (plain_text dialect bytes))))
+    ap (λ b. cond b (Refuses 0 TooLong) (unless_stopped (stopping_line dialect bytes) (meaning GRAPH (numbers_in dialect bytes))))
     (le-ltb GRAPH.bytes (length bytes) fits)
-    ∙ ap (λ (s : Option BadLine). unless_stopped s (meaning GRAPH (plain_text dialect bytes))) (stopping-none dialect.bad_lines (bad_lines dialect bytes) none)
+    ∙ ap (λ (s : Option BadLine). unless_stopped s (meaning GRAPH (numbers_in dialect bytes))) (stopping-none dialect.bad_lines (bad_lines dialect bytes) none)
     ∙ is
 
--- and where its plain text is refused no column is meant
+-- and where that is refused no column is meant
 pub refused-plain : (dialect : Dialect) (bytes : List ℕ) (refusal : Refusal) → length bytes ≤ GRAPH.bytes
-    → (dialect.bad_lines ≡ Stop → bad_lines dialect bytes ≡ []) → meaning GRAPH (plain_text dialect bytes) ≡ Refuses refusal.line refusal.kind
+    → (dialect.bad_lines ≡ Stop → bad_lines dialect bytes ≡ []) → meaning GRAPH (numbers_in dialect bytes) ≡ Refuses refusal.line refusal.kind
     → IsRefusedAt dialect bytes (record { refusal = refusal; column = None })
 unfolding bad_column
 refused-plain dialect bytes refusal fits none is = (
@@ -92,8 +92,8 @@ refused-plain dialect bytes refusal fits none is = (
 -- the edges of the given bytes are those of all bytes, and none is left
 pub AreEdgesIn-given : (dialect : Dialect) (known after : Option (List ℕ)) (given : List ℕ) (told : Told) (found : DialectEdges) → Consumes known after given
     → IsAtEnd after ⊎ (GRAPH.bytes < length given) → dialect_meaning dialect given ≡ Means told → IsNamedEdges told found.named
-    → AreSkipped found.skipped (bad_lines dialect given) → AreEdgesIn dialect known found × IsAtEnd after
-AreEdgesIn-given dialect known after given told found took (inl end) means are skipped = (
+    → AreSkipped found.skipped (bad_lines dialect given) → found.names ≡ names_told dialect given → AreEdgesIn dialect known found × IsAtEnd after
+AreEdgesIn-given dialect known after given told found took (inl end) means are skipped names = (
   record {
     bytes = given;
     read = Consumes-all known after given [] given took end refl;
@@ -101,10 +101,11 @@ AreEdgesIn-given dialect known after given told found took (inl end) means are s
     means = means;
     are = are;
     skipped = skipped;
+    names = names;
   },
   end,
 )
-AreEdgesIn-given dialect known after given told found took (inr many) means are skipped =
+AreEdgesIn-given dialect known after given told found took (inr many) means are skipped names =
     let both : Refuses 0 TooLong ≡ Means told = sym ((refused-long dialect given many).0) ∙ means in absurd (cc)
 
 -- a refusal of bytes that are too many is of the whole

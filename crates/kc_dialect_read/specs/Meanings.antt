@@ -1,4 +1,4 @@
--- What a text in a dialect means: what its plain text means, if no bad line ends the reading.
+-- What a text in a dialect means: what its text of numbers means, if no bad line ends the reading.
 use Rattle.std.specs.Prelude.{◌≡◌, ℕ, List, [], ◌∷◌, Option, Some, None, length, nat_lt, option_map, if◌then◌else◌}
 use Rattle.kc_dialect.specs.Dialects.{bad_lines, plain_text}
 use Rattle.kc_dialect.specs.EdgeFaults.{kind_of_bad}
@@ -6,6 +6,7 @@ use Rattle.kc_dialect.specs.declared.bad_line.BadLine.{BadLine}
 use Rattle.kc_dialect.specs.declared.dialect.BadLines.{BadLines}
 use Rattle.kc_dialect.specs.declared.dialect.BadLines.TheVariants.{Skip, Stop}
 use Rattle.kc_dialect.specs.declared.dialect.Dialect.{Dialect}
+use Rattle.kc_names.specs.Names.{names_of, as_numbers}
 use Rattle.kc_text.specs.Meaning.{Meaning, Refuses, meaning}
 use Rattle.kc_text.specs.declared.kind.Kind.TheVariants.{TooLong}
 use Rattle.kc_text.specs.declared.limits.TheConstants.Limits.{GRAPH}
@@ -26,11 +27,19 @@ abbrev pub unless_stopped : Option BadLine → Meaning → Meaning
 unless_stopped None plain = plain
 unless_stopped (Some bad) plain = Refuses bad.line (kind_of_bad bad.kind)
 
--- What the text of a graph means in a dialect: it may be too long, or a bad line ends the reading; else it is what the plain text means.
+-- the text of numbers for which a text in a dialect stands: its plain text, where names have their numbers in their place
+abbrev pub numbers_in : Dialect → List ℕ → List ℕ
+numbers_in dialect bytes = as_numbers dialect.ids (plain_text dialect bytes)
+
+-- the names of a text in a dialect of names, each once, in the order of their first coming
+abbrev pub names_told : Dialect → List ℕ → Option (List (List ℕ))
+names_told dialect bytes = names_of dialect.ids (plain_text dialect bytes)
+
+-- What the text of a graph means in a dialect: it may be too long, or a bad line ends the reading; else it is what its text of numbers means.
 unfoldable pub dialect_meaning : Dialect → List ℕ → Meaning
 dialect_meaning dialect bytes =
     if nat_lt GRAPH.bytes (length bytes) then Refuses 0 TooLong
-    else unless_stopped (stopping_line dialect bytes) (meaning GRAPH (plain_text dialect bytes))
+    else unless_stopped (stopping_line dialect bytes) (meaning GRAPH (numbers_in dialect bytes))
 
 -- the column of the field that is wrong in the bad line which ends the reading, if one does
 unfoldable pub bad_column : Dialect → List ℕ → Option ℕ

@@ -6,11 +6,11 @@ use Rattle.kc_dialect.specs.Rewritten.{HasFirstBad, HasRewritten}
 use Rattle.kc_dialect.specs.Skipped.{AreSkipped}
 use Rattle.kc_dialect.specs.declared.bad_line.BadLine.{BadLine}
 use Rattle.kc_dialect.specs.declared.dialect.Dialect.{Dialect}
-use Rattle.kc_text.specs.Feeding as text
+use Rattle.kc_names.specs.Reading.{WasFedIds}
 use Rattle.kc_text.specs.Inputs.{IsNamedEdges}
 use Rattle.kc_text.specs.Meaning.{Means, Told}
 use Rattle.kc_text.specs.declared.limits.TheConstants.Limits.{GRAPH}
-use Rattle.kc_dialect_read.specs.Meanings.{dialect_meaning}
+use Rattle.kc_dialect_read.specs.Meanings.{dialect_meaning, names_told}
 use Rattle.kc_dialect_read.specs.declared.plain_reader.DialectEdges.{DialectEdges}
 use Rattle.kc_dialect_read.specs.declared.plain_reader.PlainReader.{PlainReader}
 use Rattle.kc_dialect_read.specs.declared.reader.DialectReader.{DialectReader}
@@ -19,9 +19,9 @@ use Rattle.kc_dialect_read.specs.declared.reader.DialectReader.{DialectReader}
 pub record Rewrites (reader : PlainReader) (fed : List ℕ) : Type 0 where
   pub written : List ℕ
   pub rewritten : HasRewritten reader.rewriter fed written
-  pub read : text.WasFed reader.reader written
+  pub read : WasFedIds reader.dialect.ids reader.reader written
   pub dialect : reader.rewriter.lines.dialect ≡ reader.dialect
-  pub limits : reader.reader.limits ≡ GRAPH
+  pub limits : reader.reader.reader.limits ≡ GRAPH
 
 -- a reader was fed these bytes, and a bad line has ended the reading or none has
 abbrev pub WasGivenTill : DialectReader → Option BadLine → List ℕ → Type 0
@@ -37,7 +37,8 @@ WasGivenWithin reader (Some left) fed = (left + length fed ≡ GRAPH.bytes) × W
 abbrev pub WasGiven : DialectReader → List ℕ → Type 0
 WasGiven reader fed = WasGivenWithin reader reader.left fed
 
--- the edges are those that the bytes tell in a dialect, which are all of what is known of them, and these bad lines were passed over
+-- the edges are those that the bytes tell in a dialect, which are all of what is known of them, with the names of the bytes and the bad lines
+-- that were passed over
 pub record AreEdgesIn (dialect : Dialect) (known : Option (List ℕ)) (found : DialectEdges) : Type 0 where
   pub bytes : List ℕ
   pub read : IfSome known (λ all. bytes ≡ all)
@@ -45,6 +46,7 @@ pub record AreEdgesIn (dialect : Dialect) (known : Option (List ℕ)) (found : D
   pub means : dialect_meaning dialect bytes ≡ Means told
   pub are : IsNamedEdges told found.named
   pub skipped : AreSkipped found.skipped (bad_lines dialect bytes)
+  pub names : found.names ≡ names_told dialect bytes
 
 -- the reader was fed just the bytes that a source gave, and so many more are allowed
 pub record HasPassedOn (dialect : Dialect) (before after : Option (List ℕ)) (reader : DialectReader) (left : ℕ) : Type 0 where

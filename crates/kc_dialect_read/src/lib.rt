@@ -1,10 +1,11 @@
 //! Reads the edges of a text in a dialect from a source, in pieces, so that its text is never held.
 //!
 //! [`read_edges_in`] asks the source for at most [`PIECE_BYTES`] bytes at a time, has `kc_dialect` rewrite them as plain text and feeds a
-//! reader of texts with that. `specs/Meanings` says what a text means in a dialect: what its plain text means, unless a bad line ends the
-//! reading. Behind a line that is refused it reads on to the end, so that a read that fails there is still told as such.
+//! reader of texts with that. Where ids are names, `kc_names` puts their numbers in their place. `specs/Meanings` says what a text means in
+//! a dialect: what its text of numbers means, unless a bad line ends the reading. Behind a line that is refused it reads on to the end, so
+//! that a read that fails there is still told as such.
 //!
-//! The crate stands on `kc_io`, `kc_text` and `kc_dialect`.
+//! The crate stands on `kc_io`, `kc_text`, `kc_dialect` and `kc_names`.
 #![tactic(auto)]
 
 mod fault;
@@ -98,10 +99,11 @@ fn fed_reader<S: Source>(
     Ok(reader)
 }
 
-/// The ids and the edges that all bytes of the source tell in a dialect, as they were told, and the bad lines that were passed over.
+/// The ids and the edges that all bytes of the source tell in a dialect, as they were told, and the bad lines that were passed over. Where
+/// the ids are names, the ids are their numbers, and the names come with them.
 ///
-/// `Refused` comes exactly where the bytes are too many, or else where a bad line ends the reading, or else where a line of their plain
-/// text is refused, with the first such line and the first check that it fails. `ReadFault` comes only where the source's count of faults
+/// `Refused` comes exactly where the bytes are too many, or else where a bad line ends the reading, or else where a line of their text of
+/// numbers is refused, with the first such line and the first check that it fails. `ReadFault` comes only where the source's count of faults
 /// rose in this call; at each other answer no call of the source has failed. `NoMemory` comes where there is no memory to read.
 pub fn read_edges_in<S: Source>(
     alloc: Global,

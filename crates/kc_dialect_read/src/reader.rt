@@ -5,7 +5,7 @@ ghost use Rattle.kc_dialect.specs.Skipped.{AreSkipped};
 ghost use Rattle.kc_text.specs.Inputs.{IsNamedEdges};
 ghost use Rattle.kc_text.specs.Meaning.{Means, Told};
 ghost use Rattle.kc_text.specs.declared.limits.TheConstants.Limits.{GRAPH};
-ghost use Rattle.kc_dialect_read.specs.Meanings.{IsRefusedAt, dialect_meaning};
+ghost use Rattle.kc_dialect_read.specs.Meanings.{IsRefusedAt, dialect_meaning, names_told};
 ghost use Rattle.kc_dialect_read.specs.Reading.{WasGiven};
 ghost use Rattle.kc_dialect_read.specs.declared.fault.DialectFault.TheVariants.{ReadFault, Refused};
 ghost use Rattle.kc_dialect_read.specs.declared.fault.PlacedRefusal.{PlacedRefusal};
@@ -87,7 +87,7 @@ impl DialectReader {
         requires { (fed : List ℕ) × WasGiven self fed }
         ensures edges { IfOk result (λ found. (fed : List ℕ) → WasGiven self fed
             → (told : Told) × (dialect_meaning self.inner.dialect fed ≡ Means told) × IsNamedEdges told found.named
-            × AreSkipped found.skipped (bad_lines self.inner.dialect fed)) }
+            × AreSkipped found.skipped (bad_lines self.inner.dialect fed) × (found.names ≡ names_told self.inner.dialect fed)) }
         ensures few { IfOk result (λ found. length found.named.ids.items ≤ GRAPH.ids) }
         ensures within { IfOk result (λ found. All (λ p. (p.0 < p.1) × (p.1 < length found.named.ids.items)) found.named.edges.items) }
         ensures refused { (r : PlacedRefusal) (fed : List ℕ) → IsErrOf result (Refused r) → WasGiven self fed → IsRefusedAt self.inner.dialect fed r }

@@ -6,7 +6,7 @@ use Rattle.kc_dialect.specs.Skipped.{AreSkipped}
 use Rattle.kc_dialect.specs.declared.dialect.Dialect.{Dialect}
 use Rattle.kc_text.specs.Inputs.{IsNamedEdges}
 use Rattle.kc_text.specs.Meaning.{Means, Told}
-use Rattle.kc_dialect_read.specs.Meanings.{IsRefusedAt, dialect_meaning}
+use Rattle.kc_dialect_read.specs.Meanings.{IsRefusedAt, dialect_meaning, names_told}
 use Rattle.kc_dialect_read.specs.declared.plain_reader.DialectEdges.{DialectEdges}
 use Rattle.kc_dialect_read.proofs.Stops.{AreEdgesIn-given, refused-given}
 use Rattle.kc_dialect_read.proofs.read_edges_in.Goals as goal
@@ -23,9 +23,11 @@ not_err r x n e = n e
 -- what is told in a dialect is told in the same one
 told_in : (d e : Dialect) (given : List ℕ) (found : DialectEdges) → d ≡ e
     → (told : Told) × (dialect_meaning d given ≡ Means told) × IsNamedEdges told found.named × AreSkipped found.skipped (bad_lines d given)
+    × (found.names ≡ names_told d given)
     → (told : Told) × (dialect_meaning e given ≡ Means told) × IsNamedEdges told found.named × AreSkipped found.skipped (bad_lines e given)
+    × (found.names ≡ names_told e given)
 told_in d e given found same = subst (λ (x : Dialect). (told : Told) × (dialect_meaning x given ≡ Means told) × IsNamedEdges told found.named
-    × AreSkipped found.skipped (bad_lines x given)) same
+    × AreSkipped found.skipped (bad_lines x given) × (found.names ≡ names_told x given)) same
 
 pub returns-in_err-reader : goal.returns-in_err-reader
 returns-in_err-reader g c =
@@ -51,11 +53,11 @@ returns g c =
     let after = g.S.Source.left c.fed_reader.new.source in
     record {
       edges = IfOk-weaker c.finish.result _ _ (λ found h.
-          let (told, means, are, skipped) = told_in _ _ given found d (h given fed) in
-          (AreEdgesIn-given c.args.dialect known after given told found took end means are skipped).0) c.finish.ensures.edges;
+          let (told, means, are, skipped, names) = told_in _ _ given found d (h given fed) in
+          (AreEdgesIn-given c.args.dialect known after given told found took end means are skipped names).0) c.finish.ensures.edges;
       ended = at_ok _ c.finish.result (λ found h.
-          let (told, means, are, skipped) = told_in _ _ given found d (h given fed) in
-          (AreEdgesIn-given c.args.dialect known after given told found took end means are skipped).1) c.finish.ensures.edges;
+          let (told, means, are, skipped, names) = told_in _ _ given found d (h given fed) in
+          (AreEdgesIn-given c.args.dialect known after given told found took end means are skipped names).1) c.finish.ensures.edges;
       few = c.finish.ensures.few;
       within = c.finish.ensures.within;
       refused = λ r e. refused-given c.args.dialect known after given r took end
