@@ -34,18 +34,21 @@ def text_of(draw):
     return "".join(line + draw.choice(("\n", "\r\n")) for line in lines)
 
 
+def graph_of_pairs(pairs):
+    """The neighbours of each end of these pairs, in the order of their first coming."""
+    neighbours = {}
+    for u, v in pairs:
+        for a, b in ((u, v), (v, u)):
+            neighbours.setdefault(a, set())
+            if a != b:
+                neighbours[a].add(b)
+    return neighbours
+
+
 def graph_of(text):
     """The neighbours of each id."""
-    neighbours = {}
-    for line in text.splitlines():
-        fields = line.split()
-        if fields and fields[0][0] not in "#%":
-            u, v = map(int, fields)
-            for a, b in ((u, v), (v, u)):
-                neighbours.setdefault(a, set())
-                if a != b:
-                    neighbours[a].add(b)
-    return dict(sorted(neighbours.items()))
+    rows = (line.split() for line in text.splitlines())
+    return dict(sorted(graph_of_pairs(map(int, row) for row in rows if row and row[0][0] not in "#%").items()))
 
 
 def core_numbers(neighbours):
@@ -80,7 +83,7 @@ FORMATS = ((), ("--format", "tsv"), ("--format", "json"))
 def written(names, rows, words):
     """Lines of numbers with these names, in the format that the words ask for."""
     if "json" in words:
-        return "".join(json.dumps(dict(zip(names, row)), separators=(",", ":")) + "\n" for row in rows)
+        return "".join(json.dumps(dict(zip(names, row)), separators=(",", ":"), ensure_ascii=False) + "\n" for row in rows)
     return "".join("\t".join(map(str, row)) + "\n" for row in rows)
 
 

@@ -4,8 +4,8 @@
 usage: fuzz_tables.py [--cores PROGRAM] [--cases N] [--seed N]
 (default: crates/cores/out/cores beside this folder, 2,000 cases of seed 1)
 
-A case draws the columns, the separator, the lines of the head and what becomes of bad lines, some of them left to what holds where nothing is
-said. Its table has quotes, separators in quotes, empty cells, comments, blank lines, bad lines, a byte order mark, both line ends, a last line
+A case draws the columns, the separator, the lines of the head, what becomes of bad lines and whether the ids are names, some of them left to what
+holds where nothing is said. Its table has quotes, separators in quotes, empty cells, comments, blank lines, bad lines, a byte order mark, both line ends, a last line
 without an end, and lines of arbitrary bytes. Now and then a long comment moves the lines to where a piece of the reading ends (a MiB). The
 table is read from a file, from standard input, or from a pipe that is filled slowly and in pieces. One of the commands is run, and the status,
 the lines and what is told have to be the model's: of a refusal the line and the column, of bad lines that were passed over the first five and
@@ -29,19 +29,21 @@ ENDINGS = {"comma": ".csv", "tab": ".tsv"}
 GREATEST = 4_294_967_295
 PIECE = 1 << 20
 WRONG = (b"a", b"4294967296", b"99999999999999999999", b"1.5", b"-1", b"+1", b"0x1", b"1e3", b"", b'"', b'""', b'" 1"', b'"1', b'1"2', b"1\r2", b"\xff", b"\0")
+NAMES = (b"ann", b"bob", b"Ann", "Zo\u00eb".encode(), "\u6771\u4eac".encode(), b"batch", b"+", b"-1", b"12", b"012", b"a/b\\c", b"O'Neil", b"x#y", b'say"hi')
+WRONG_NAMES = (b"", b"a b", b"a\tb", b"\xff", b"Zo\xeb", b"\x01", b"x\x7f", b"a\rb", b"\0", b'""')
 BESIDE = (b"x", b"0.5", b"-3", b"7", b"2026-11-29", b"{}", b"#", b"12:30")
 WRONG_WORDS = (("--columns", "0,1"), ("--columns", "2,2"), ("--columns", "1"), ("--columns", "1,a"), ("--columns", "1,2,3"), ("--columns", "4294967296,1"), ("--separator", "pipe"),
-               ("--separator", ","), ("--skip", "x"), ("--skip", "4294967296"), ("--bad-lines", "drop"), ("--column", "1,2"), ("--bad-lines",))
+               ("--separator", ","), ("--skip", "x"), ("--skip", "4294967296"), ("--bad-lines", "drop"), ("--ids", "words"), ("--ids",), ("--column", "1,2"), ("--bad-lines",))
 
-# How a table is read: the columns of the ids, the separator, the lines of the head, and what becomes of bad lines.
-Dialect = collections.namedtuple("Dialect", "columns separator skip bad_lines")
+# How a table is read: the columns of the ids, the separator, the lines of the head, what becomes of bad lines, and what the ids are.
+Dialect = collections.namedtuple("Dialect", "columns separator skip bad_lines ids")
 
 
 def dialect_of(draw):
     """A random dialect."""
     columns = draw.choice(((1, 2), draw.sample(range(1, 6), 2))) if draw.random() < 0.95 else (1, GREATEST)
     skip = draw.choice((0, 0, 0, 1, 2, 5)) if draw.random() < 0.97 else draw.choice((40, GREATEST))
-    return Dialect(tuple(columns), draw.choice(sorted(SEPARATORS)), skip, draw.choice(("stop", "skip")))
+    return Dialect(tuple(columns), draw.choice(sorted(SEPARATORS)), skip, draw.choice(("stop", "skip")), draw.choice(("numbers", "names")))
 
 
 def cell_text(draw, cell, separator):
@@ -56,17 +58,19 @@ def row_of(draw, dialect, ids, wrong):
     """A line of a table; with the probability `wrong` something is wrong with it."""
     parting, width = SEPARATORS[dialect.separator], min(max(dialect.columns), 6)
     quoted = [b'"x%sy"' % parting] if dialect.separator != "blank" else []
-    cells = [b"%d" % draw.choice(ids) if column in dialect.columns else draw.choice((*BESIDE, *quoted)) for column in range(1, width + 1)]
-    cells = [draw.choice((cell, cell, cell, b"000" + cell)) if cell.isdigit() else cell for cell in cells] + [b"y"] * draw.randrange(3)
+    cells = [draw.choice(ids) if column in dialect.columns else draw.choice((*BESIDE, *quoted)) for column in range(1, width + 1)]
+    if dialect.ids == "numbers":
+        cells = [draw.choice((cell, cell, cell, b"000" + cell)) if cell.isdigit() else cell for cell in cells]
+    cells += [b"y"] * draw.randrange(3)
     if draw.random() < wrong:
         at = draw.randrange(len(cells))
-        cells = draw.choice((cells[:at], cells[:at] + [draw.choice(WRONG)] + cells[at + 1:]))
+        cells = draw.choice((cells[:at], cells[:at] + [draw.choice(WRONG if dialect.ids == "numbers" else WRONG_NAMES)] + cells[at + 1:]))
     return parting.join(cell_text(draw, cell, dialect.separator) for cell in cells)
 
 
 def table_of(draw, dialect):
     """A random table in this dialect."""
-    ids = draw.sample(range(draw.choice((9, 60, GREATEST + 1))), 8)
+    ids = [b"%d" % v for v in draw.sample(range(draw.choice((9, 60, GREATEST + 1))), 8)] if dialect.ids == "numbers" else draw.sample(NAMES, 8)
     wrong, ends = draw.choice((0, 0, 0.05, 0.5)), draw.choice(((b"\n",), (b"\r\n",), (b"\n", b"\n", b"\r\n")))
     lines = []
     for number in range(draw.randrange(30)):
@@ -104,6 +108,17 @@ def cells_of(line, separator):
     return cells
 
 
+def id_of(cell, ids):
+    """The id of a cell: a number, or a name; None where it is neither."""
+    if ids == "numbers":
+        return int(cell) if re.fullmatch(rb"[0-9]+", cell) and int(cell) <= GREATEST else None
+    try:
+        name = cell.decode()
+    except UnicodeDecodeError:
+        return None
+    return name if name and all(b > 32 and b != 127 for b in cell) else None
+
+
 def rows_of(text, dialect):
     """The lines of a table: for each its number, and the two ids, or the column that is wrong."""
     lines = text.split(b"\n")
@@ -115,10 +130,11 @@ def rows_of(text, dialect):
         cells, ids = cells_of(line, dialect.separator), []
         for column in dialect.columns:
             start, cell = cells[column - 1] if column <= len(cells) else (len(line), b"")
-            if not re.fullmatch(rb"[0-9]+", cell) or int(cell) > GREATEST:
+            found = id_of(cell, dialect.ids)
+            if found is None:
                 yield number, None, start + 1
                 break
-            ids.append(int(cell))
+            ids.append(found)
         else:
             yield number, ids, None
 
@@ -126,8 +142,8 @@ def rows_of(text, dialect):
 def words_of(draw, dialect, file):
     """The options that tell this dialect; what holds without a word, or by the file's name, may be left out. One option stands always."""
     pairs = [("--columns", f"{dialect.columns[0]},{dialect.columns[1]}"), ("--skip", str(dialect.skip)), ("--bad-lines", dialect.bad_lines)]
-    pairs.append(("--separator", dialect.separator))
-    usual = {"--columns": "1,2", "--skip": "0", "--bad-lines": "stop", "--separator": {".csv": "comma", ".tsv": "tab"}.get(file.suffix, "blank")}
+    pairs += [("--separator", dialect.separator), ("--ids", dialect.ids)]
+    usual = {"--columns": "1,2", "--skip": "0", "--bad-lines": "stop", "--ids": "numbers", "--separator": {".csv": "comma", ".tsv": "tab"}.get(file.suffix, "blank")}
     left = [pair for pair in pairs if usual[pair[0]] != pair[1] or draw.random() < 0.5]
     told_by_name = file.suffix in (".csv", ".tsv")
     left = left if left or told_by_name else [draw.choice(pairs)]
@@ -150,13 +166,23 @@ def run_slowly(draw, words, text):
         return running.returncode, lines.decode(), told.decode()
 
 
-def wanted_of(rows, command):
-    """What a command writes of the edges of a table."""
-    neighbours = fuzz_cores.graph_of("".join(f"{ids[0]} {ids[1]}\n" for _, ids, _ in rows if ids))
+def labelled(keys, rows, labels):
+    """The rows of lines with the labels of their ids in place of these."""
+    return keys, [tuple(labels[field] if key in ("id", "source", "target") else field for key, field in zip(keys, row)) for row in rows]
+
+
+def wanted_of(rows, command, words):
+    """What a command writes of the edges of a table. Names are numbered in the order of their first coming."""
+    pairs = [ids for _, ids, _ in rows if ids]
+    numbers = {}
+    for name in (name for pair in pairs for name in pair if isinstance(name, str)):
+        numbers.setdefault(name, len(numbers))
+    neighbours = fuzz_cores.graph_of("".join(f"{numbers.get(a, a)} {numbers.get(b, b)}\n" for a, b in pairs))
     core = fuzz_cores.core_numbers(neighbours)
     size = sum(map(len, neighbours.values())) // 2
     summary = f"vertices {len(core)} edges {size} top {max(core.values(), default=0)}"
-    return fuzz_cores.written(*fuzz_cores.wanted(neighbours, core, 2)[command], command), summary
+    labels = dict(enumerate(numbers)) if numbers else {v: v for v in neighbours}
+    return fuzz_cores.written(*labelled(*fuzz_cores.wanted(neighbours, core, 2)[command], labels), words), summary
 
 
 def is_told(found, starts):
@@ -173,6 +199,7 @@ def difference(program, draw, place, tried):
     way = draw.choice(("file", "file", "input", "slow pipe"))
     words = words_of(draw, dialect, file if way == "file" else pathlib.Path("table"))
     command = draw.choice((("numbers",), ("numbers",), ("sizes",), ("members", "--edges"), ("layers",)))
+    words += draw.choice(fuzz_cores.FORMATS)
     asked = [program, *command, *words]
     tried[f"from a {way}" if way != "input" else "from standard input"] += 1
     if way == "slow pipe":
@@ -189,8 +216,8 @@ def difference(program, draw, place, tried):
         shown = fuzz_cores.shown_lines(text, *bad[0])
         right = (status, lines) == (3, "") and is_told(told, [f"{front}line {bad[0][0]}, column {bad[0][1]}: ", *shown])
     else:
-        wanted, summary = wanted_of(rows, command)
-        tried["read with bad lines" if bad else "read, without an edge line" if not rows else "read"] += 1
+        wanted, summary = wanted_of(rows, command, words)
+        tried["read with bad lines" if bad else "read, without an edge line" if not rows else f"read as {dialect.ids}"] += 1
         starts = [f"{front}line {number}, column {column}: " for number, column in bad[:5]]
         starts += [f"{front}{'1 line was' if len(bad) == 1 else f'{len(bad)} lines were'} passed over"] if bad else []
         right = (status, lines) == (0, wanted) and is_told(told, [*starts, summary])

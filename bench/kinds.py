@@ -201,8 +201,18 @@ def id_rows():
         refused("64-bit ids (Twitter)", "1 2\n2 9007199254740993\n", 2, 3, "4294967295"),
         refused("64-bit ids in a CSV", "1,2\n2,9007199254740993\n", 2, 3, "4294967295", name="graph.csv"),
         refused("ids of 21 digits (ego-Gplus)", "1 112188647432305746617\n", 1, 3, "4294967295"),
-        refused("names", "alice bob\nbob carol\n", 1, 1, "number the names"),
-        refused("UUIDs", "1 0b5c9c1e-0d2b-4f6e-9a1f-2f0f3b7e9d11\n", 1, 3, "number the names"),
+        refused("names", "alice bob\nbob carol\n", 1, 1, "--ids"),
+        right("names", "alice bob\nbob carol\n", [("alice", "bob"), ("bob", "carol")], "--ids", "names"),
+        refused("UUIDs", "1 0b5c9c1e-0d2b-4f6e-9a1f-2f0f3b7e9d11\n", 1, 3, "--ids"),
+        right("UUIDs", "1 0b5c9c1e-0d2b-4f6e-9a1f-2f0f3b7e9d11\n", [("1", "0b5c9c1e-0d2b-4f6e-9a1f-2f0f3b7e9d11")], "--ids", "names"),
+        right("64-bit ids as names", "2 9007199254740993\n", [("2", "9007199254740993")], "--ids", "names"),
+        right("names of genes, with a weight", "BRCA1 TP53 0.98\nTP53 BRCA1 0.98\n", [("BRCA1", "TP53")], "--ids", "names"),
+        right("letters of more than one byte", "Zoë 東京\n", [("Zoë", "東京")], "--ids", "names"),
+        right("names of a CSV, with a header", "from,to\nann,\"Doe,J\"\n", [("ann", "Doe,J")], "--ids", "names", "--skip", "1", name="graph.csv"),
+        right("mail addresses that are not whole are passed over", "a@x.org b@x.org\na@x.org\n", [("a@x.org", "b@x.org")], "--ids", "names",
+              "--bad-lines", "skip", told=("line 2, column 8: ", "1 line was passed over")),
+        refused("a name with a blank", "ann,New York\n", 1, 5, "blank", "--ids", "names", name="graph.csv"),
+        refused("names in Latin-1", "Zo\u00eb ann\n".encode("latin-1"), 1, 1, "UTF-8", "--ids", "names"),
         refused("hexadecimal ids", "0x1 0x2\n", 1, 1, "whole number"),
         refused("a negative id", "-1 2\n", 1, 1, "whole number"),
         refused("comments of // ", "// a comment\n1 2\n2 3\n", 1, 1, "#"),
@@ -218,9 +228,9 @@ def rows():
 
 
 def numbers_of(edges):
-    """The lines of the core numbers of these edges, and the summary."""
-    text = "".join(f"{u} {v}\n" for u, v in edges)
-    neighbours = fuzz_cores.graph_of(text)
+    """The lines of the core numbers of these edges, and the summary: by ascending ids, or names in the order of their first coming."""
+    neighbours = fuzz_cores.graph_of_pairs(edges)
+    neighbours = dict(sorted(neighbours.items())) if all(isinstance(v, int) for v in neighbours) else neighbours
     core = fuzz_cores.core_numbers(neighbours)
     size = sum(map(len, neighbours.values())) // 2
     lines = "".join(f"{v}\t{core[v]}\n" for v in neighbours)

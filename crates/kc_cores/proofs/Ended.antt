@@ -11,10 +11,10 @@ use Rattle.kc_text.specs.declared.kind.Kind.{Kind}
 use Rattle.kc_text.specs.Meaning.{Means, Refuses, Told}
 use Rattle.kc_dialect.specs.declared.dialect.Dialect.{Dialect}
 use Rattle.kc_dialect.specs.declared.skipped.SkippedLines.{SkippedLines}
-use Rattle.kc_cores.specs.Answers.{AreLinesFor, IsRefusedBy, graph_meaning, passed_over, summary_line}
+use Rattle.kc_cores.specs.Answers.{AreLinesFor, IsRefusedBy, graph_meaning, graph_names, labels_of, passed_over, summary_line}
 use Rattle.kc_cores.specs.CoresEnded.{CoresEnded, FaultsAt, IsAnswerTo, IsLineAt, ReaderAt, TookAt, WriteFaultsAt, done_line, given_bytes}
 use Rattle.kc_cores.specs.Endings.{CutAt, NoFileGraphAt}
-use Rattle.kc_cores.specs.Inputs.{IsGraphOf, known_bytes}
+use Rattle.kc_cores.specs.Inputs.{IsNamedGraphOf, known_bytes}
 use Rattle.kc_cores.specs.Skips.{skipped_report, told_skips}
 use Rattle.kc_cores.specs.Wishes.{Asks, Query, Wish}
 use Rattle.kc_cores.specs.declared.CoresStatus.{CoresStatus}
@@ -81,24 +81,27 @@ complete-of status.Refused query known before after line bytes told right took (
     (ap (λ (x : Query). graph_meaning x.graph.dialect bytes) q ∙ refused.0))
 
 -- the graph of the bytes that were read has these lines and this summary
-pub IsAnswerTo-graph : (query : Query) (ids core text summary : List ℕ) (g : SimpleGraph) (skipped : SkippedLines) (known : Option (List ℕ))
-    → IsGraphOf query.graph.dialect known ids g skipped → AreCoreNumbers g core → AreLinesFor query.format query.task ids g core text
+pub IsAnswerTo-graph : (query : Query) (ids core text summary : List ℕ) (called : Option (List (List ℕ))) (g : SimpleGraph) (skipped : SkippedLines)
+    (known : Option (List ℕ)) → IsNamedGraphOf query.graph.dialect known ids called g skipped → AreCoreNumbers g core
+    → AreLinesFor query.format query.task (labels_of called ids) g core text
     → summary ≡ told_skips query.graph.file skipped.count skipped.first.items ++ summary_line g core → IsAnswerTo (Asks query) known text summary
-IsAnswerTo-graph query ids core text summary g skipped known graph numbers lines sums = (
-  graph.bytes,
-  graph.read,
-  record {
-    told = graph.told;
-    means = graph.means;
-    ids = ids;
-    named = graph.named;
-    core = core;
-    numbers = subst (λ (h : SimpleGraph). AreCoreNumbers h core) graph.is numbers;
-    is = subst (λ (h : SimpleGraph). AreLinesFor query.format query.task ids h core text) graph.is lines;
-    sums = sums ∙ (λ i. told_skips query.graph.file (graph.passed.count i) (graph.passed.first i) ++ summary_line g core)
-        ∙ ap (λ (h : SimpleGraph). skipped_report query.graph.file (passed_over query.graph.dialect graph.bytes) ++ summary_line h core) graph.is;
-  },
-)
+IsAnswerTo-graph query ids core text summary called g skipped known named numbers lines sums =
+    let graph = named.graph in (
+      graph.bytes,
+      graph.read,
+      record {
+        told = graph.told;
+        means = graph.means;
+        ids = ids;
+        named = graph.named;
+        core = core;
+        numbers = subst (λ (h : SimpleGraph). AreCoreNumbers h core) graph.is numbers;
+        is = subst (λ (h : SimpleGraph). AreLinesFor query.format query.task (labels_of (graph_names query.graph.dialect graph.bytes) ids) h core text) graph.is
+            (subst (λ (names : Option (List (List ℕ))). AreLinesFor query.format query.task (labels_of names ids) g core text) named.names lines);
+        sums = sums ∙ (λ i. told_skips query.graph.file (graph.passed.count i) (graph.passed.first i) ++ summary_line g core)
+            ∙ ap (λ (h : SimpleGraph). skipped_report query.graph.file (passed_over query.graph.dialect graph.bytes) ++ summary_line h core) graph.is;
+      },
+    )
 
 module _ {I O : Type 0} (source : sources.Ghosts I) (behind : I → List ℕ → Option (List ℕ)) (out : sinks.Ghosts O) (gone : O → Bool) where
   -- what a run for a task has to show

@@ -18,7 +18,7 @@ use Rattle.kc_claims.specs.Streams.{HoldsOfStream}
 use Rattle.kc_claims.specs.declared.claim.Claim.{Claim}
 use Rattle.kc_cores.specs.Answers.{graph_meaning, passed_over}
 use Rattle.kc_cores.specs.CheckEnded.{AreClaimsOf, HoldsOfBoth}
-use Rattle.kc_cores.specs.Inputs.{AreReadFrom, IsGraphOf, known_bytes}
+use Rattle.kc_cores.specs.Inputs.{AreReadFrom, IsGraphOf, IsNamedGraphOf, known_bytes}
 use Rattle.kc_cores.proofs.Unmarked.{unmarked}
 
 -- what the bytes mean within the limits of a graph, behind a mark, is what the text of a graph means
@@ -51,6 +51,17 @@ IsGraphOf-read dialect known ids found g skipped r same is passed = record {
   passed = subst (λ (s : SkippedLines). AreSkipped s (passed_over dialect r.bytes)) (sym passed) r.skipped;
   named = subst (λ (xs : List ℕ). AreIds (names r.told) xs) (sym same) r.are.named;
   is = graph-of_pairs r.told found.named g r.are is ∙ sym (ap (λ (xs : List ℕ). start_graph xs r.told.edges) same);
+}
+
+-- and its names are those of the bytes
+pub IsNamedGraphOf-read : (dialect : Option Dialect) (known : Option (List ℕ)) (ids : List ℕ) (called : Option (List (List ℕ))) (found : DialectEdges)
+    (g : SimpleGraph) (skipped : SkippedLines) → AreReadFrom dialect known found → ids ≡ found.named.ids.items → called ≡ found.names
+    → g ≡ record { size = length found.named.ids.items; edges = set.from_list found.named.edges.items } → skipped ≡ found.skipped
+    → IsNamedGraphOf dialect known ids called g skipped
+unfolding IsGraphOf-read
+IsNamedGraphOf-read dialect known ids called found g skipped r same kept is passed = record {
+  graph = IsGraphOf-read dialect known ids found g skipped r same is passed;
+  names = kept ∙ r.called;
 }
 
 -- the graph of what was read has a vertex for each id

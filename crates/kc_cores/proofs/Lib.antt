@@ -2,6 +2,7 @@ pub mod Checked
 pub mod Claiming
 pub mod Ended
 pub mod Graphs
+pub mod Labelled
 pub mod Listed
 pub mod Looked
 pub mod Placing

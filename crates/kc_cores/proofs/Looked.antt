@@ -45,9 +45,9 @@ marked bytes = 239 ∷ 187 ∷ 191 ∷ bytes
 
 -- what was read as it is, behind a mark, is what the bytes of the input tell
 pub AreReadFrom-plain : (known left : Option (List ℕ)) (head : List ℕ) (found : DialectEdges) → IsLookedAt None known left head
-    → AreEdgesWithin GRAPH left found.named → HasFewIds found.named → AreSkipped found.skipped [] → AreReadFrom None known found
+    → AreEdgesWithin GRAPH left found.named → HasFewIds found.named → AreSkipped found.skipped [] → found.names ≡ None → AreReadFrom None known found
 unfolding marked
-AreReadFrom-plain None left head found looked r fit skipped = record {
+AreReadFrom-plain None left head found looked r fit skipped called = record {
   bytes = marked r.bytes;
   read = tt;
   told = r.told;
@@ -55,8 +55,9 @@ AreReadFrom-plain None left head found looked r fit skipped = record {
   are = r.are;
   fit = fit;
   skipped = skipped;
+  called = called;
 }
-AreReadFrom-plain (Some all) left head found looked r fit skipped =
+AreReadFrom-plain (Some all) left head found looked r fit skipped called =
     let same : r.bytes ≡ without_mark all = of_text (λ (t : List ℕ). r.bytes ≡ t) left (without_mark all) looked.1 r.read in record {
       bytes = all;
       read = refl;
@@ -65,6 +66,7 @@ AreReadFrom-plain (Some all) left head found looked r fit skipped =
       are = r.are;
       fit = fit;
       skipped = skipped;
+      called = called;
     }
 
 -- what was read in a dialect is what the bytes of the input tell in it
@@ -78,6 +80,7 @@ AreReadFrom-in dialect known left head found looked r fit = record {
   are = r.are;
   fit = fit;
   skipped = r.skipped;
+  called = r.names;
 }
   where
     told : (known : Option (List ℕ)) → IsLookedAt (Some dialect) known left head → IfSome known (λ all. r.bytes ≡ all)

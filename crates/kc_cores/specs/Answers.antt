@@ -1,11 +1,12 @@
 -- The lines that each task has for the graph of a text.
-use Rattle.std.specs.Prelude.{◌≡◌, ◌+◌, ◌++◌, ◌&&◌, ◌==◌, ℕ, Bool, List, [], ◌∷◌, Option, None, Some, codes, decimal, filter, length, nat_le, unwrap_or}
+use Rattle.std.specs.Prelude.{◌≡◌, ◌+◌, ◌++◌, ◌&&◌, ◌==◌, ℕ, Bool, List, [], ◌∷◌, Option, None, Some, codes, decimal, filter, length, map}
+use Rattle.std.specs.Prelude.{nat_le, slice_index_or, unwrap_or}
 use Rattle.std.specs.FinSet as set
 use Rattle.std.specs.List.{flat_map}
 use Rattle.kc_dialect.specs.Dialects.{bad_lines, without_mark}
 use Rattle.kc_dialect.specs.declared.bad_line.BadLine.{BadLine}
 use Rattle.kc_dialect.specs.declared.dialect.Dialect.{Dialect}
-use Rattle.kc_dialect_read.specs.Meanings.{bad_column, dialect_meaning}
+use Rattle.kc_dialect_read.specs.Meanings.{bad_column, dialect_meaning, names_told}
 use Rattle.kc_flat.specs.Listing.{ascending_below, edge_list}
 use Rattle.kc_graph.specs.Certificate.{Certifies}
 use Rattle.kc_graph.specs.Core.{AreCoreNumbers, greatest}
@@ -18,7 +19,9 @@ use Rattle.kc_text.specs.Meaning.{Means, Meaning, Refuses, Told, meaning, names}
 use Rattle.kc_text.specs.declared.limits.TheConstants.Limits.{GRAPH}
 use Rattle.kc_text.specs.declared.refusal.Refusal.{Refusal}
 use Rattle.kc_tally.specs.Layers.{AreLayers}
+use Rattle.kc_lines.specs.Fields.{Label, Name, Number}
 use Rattle.kc_lines.specs.declared.format.Format.{Format}
+use Rattle.kc_names.specs.Names.{name_at}
 use Rattle.kc_cores.specs.Lines.{counts_line, edge_line, layer_line, member_line, number_line}
 use Rattle.kc_cores.specs.Sentences.{GraphRefusal}
 use Rattle.kc_cores.specs.Skips.{skipped_report}
@@ -48,6 +51,24 @@ abbrev pub passed_over : Option Dialect → List ℕ → List BadLine
 passed_over None bytes = []
 passed_over (Some dialect) bytes = bad_lines dialect bytes
 
+-- the names of the text of a graph, where its ids are names: each once, in the order of their first coming
+abbrev pub graph_names : Option Dialect → List ℕ → Option (List (List ℕ))
+graph_names None bytes = None
+graph_names (Some dialect) bytes = names_told dialect bytes
+
+-- what is written for an id: the number itself, or the name for which it stands
+abbrev pub label_in : Option (List (List ℕ)) → ℕ → Label
+label_in None id = Number id
+label_in (Some names) id = Name (name_at names id)
+
+-- what is written for each of some ids
+abbrev pub labels_of : Option (List (List ℕ)) → List ℕ → List Label
+labels_of names ids = map (label_in names) ids
+
+-- what is written for a vertex
+abbrev pub label_at : List Label → ℕ → Label
+label_at labels v = slice_index_or labels v (Number 0)
+
 -- whether a vertex is in the k-core: its core number is k or more
 abbrev pub is_in_core : List ℕ → ℕ → ℕ → Bool
 is_in_core core k v = nat_le k (at core v)
@@ -64,9 +85,9 @@ core_edges g core k = filter (λ e. is_in_core core k e.0 && is_in_core core k e
 abbrev pub shell : SimpleGraph → List ℕ → ℕ → List ℕ
 shell g core k = filter (λ v. k == at core v) (ascending_below g.size)
 
--- for each vertex its id and its core number
-abbrev pub number_lines : Format → List ℕ → SimpleGraph → List ℕ → List ℕ
-number_lines format ids g core = flat_map (λ v. number_line format (at ids v) (at core v)) (ascending_below g.size)
+-- for each vertex its id or name and its core number
+abbrev pub number_lines : Format → List Label → SimpleGraph → List ℕ → List ℕ
+number_lines format labels g core = flat_map (λ v. number_line format (label_at labels v) (at core v)) (ascending_below g.size)
 
 -- k, how many vertices have the core number k, and how many vertices and edges the k-core has
 abbrev pub size_line : Format → SimpleGraph → List ℕ → ℕ → List ℕ
@@ -80,38 +101,39 @@ size_lines format g core = flat_map (size_line format g core) (ascending_below (
 abbrev pub level_of : Option ℕ → List ℕ → ℕ
 level_of level core = unwrap_or level (greatest core)
 
--- the ids of the vertices of the k-core
-abbrev pub member_lines : Format → List ℕ → SimpleGraph → List ℕ → ℕ → List ℕ
-member_lines format ids g core k = flat_map (λ v. member_line format (at ids v)) (core_vertices g core k)
+-- the ids or names of the vertices of the k-core
+abbrev pub member_lines : Format → List Label → SimpleGraph → List ℕ → ℕ → List ℕ
+member_lines format labels g core k = flat_map (λ v. member_line format (label_at labels v)) (core_vertices g core k)
 
--- the ids of both ends of the edges of the k-core
-abbrev pub edge_lines : Format → List ℕ → SimpleGraph → List ℕ → ℕ → List ℕ
-edge_lines format ids g core k = flat_map (λ e. edge_line format (at ids e.0) (at ids e.1)) (core_edges g core k)
+-- the ids or names of both ends of the edges of the k-core
+abbrev pub edge_lines : Format → List Label → SimpleGraph → List ℕ → ℕ → List ℕ
+edge_lines format labels g core k = flat_map (λ e. edge_line format (label_at labels e.0) (label_at labels e.1)) (core_edges g core k)
 
--- for each vertex its id, its core number and its layer, when the first layer of each core number is 0
-abbrev pub layer_lines : Format → List ℕ → SimpleGraph → List ℕ → List ℕ → List ℕ
-layer_lines format ids g core layer = flat_map (λ v. layer_line format (at ids v) (at core v) (at layer v)) (ascending_below g.size)
+-- for each vertex its id or name, its core number and its layer, when the first layer of each core number is 0
+abbrev pub layer_lines : Format → List Label → SimpleGraph → List ℕ → List ℕ → List ℕ
+layer_lines format labels g core layer = flat_map (λ v. layer_line format (label_at labels v) (at core v) (at layer v)) (ascending_below g.size)
 
--- for each vertex its id and its core number, as an order has the vertices
-abbrev pub order_lines : Format → List ℕ → List ℕ → List ℕ → List ℕ
-order_lines format ids core order = flat_map (λ v. number_line format (at ids v) (at core v)) order
+-- for each vertex its id or name and its core number, as an order has the vertices
+abbrev pub order_lines : Format → List Label → List ℕ → List ℕ → List ℕ
+order_lines format labels core order = flat_map (λ v. number_line format (label_at labels v) (at core v)) order
 
--- the text has the lines of a task, in a format, for a graph with these core numbers, whose vertices stand for these ids
-abbrev pub AreLinesFor : Format → Task → List ℕ → SimpleGraph → List ℕ → List ℕ → Type 0
-AreLinesFor format Numbers ids g core text = text ≡ number_lines format ids g core
-AreLinesFor format Sizes ids g core text = text ≡ size_lines format g core
-AreLinesFor format (Members level) ids g core text = text ≡ member_lines format ids g core (level_of level core)
-AreLinesFor format (Edges level) ids g core text = text ≡ edge_lines format ids g core (level_of level core)
-AreLinesFor format Layers ids g core text = (layer : List ℕ) × AreLayers g core layer × (text ≡ layer_lines format ids g core layer)
-AreLinesFor format Order ids g core text = (order : List ℕ) × Certifies g core order × (text ≡ order_lines format ids core order)
+-- the text has the lines of a task, in a format, for a graph with these core numbers, whose vertices are written as these labels
+abbrev pub AreLinesFor : Format → Task → List Label → SimpleGraph → List ℕ → List ℕ → Type 0
+AreLinesFor format Numbers labels g core text = text ≡ number_lines format labels g core
+AreLinesFor format Sizes labels g core text = text ≡ size_lines format g core
+AreLinesFor format (Members level) labels g core text = text ≡ member_lines format labels g core (level_of level core)
+AreLinesFor format (Edges level) labels g core text = text ≡ edge_lines format labels g core (level_of level core)
+AreLinesFor format Layers labels g core text = (layer : List ℕ) × AreLayers g core layer × (text ≡ layer_lines format labels g core layer)
+AreLinesFor format Order labels g core text = (order : List ℕ) × Certifies g core order × (text ≡ order_lines format labels core order)
 
 -- `vertices N edges M top T`
 abbrev pub summary_line : SimpleGraph → List ℕ → List ℕ
 summary_line g core =
     codes "vertices " ++ (decimal g.size ++ (codes " edges " ++ (decimal (set.len g.edges) ++ (codes " top " ++ (decimal (greatest core) ++ 10 ∷ [])))))
 
--- The bytes mean a graph without batches, whose vertices stand for the ids in ascending order. These are its lines for the task, and what is
--- told of the run: the bad lines that were passed over, and the summary of the graph.
+-- The bytes mean a graph without batches, whose vertices stand for the ids in ascending order. Where ids are names, the ids of the graph are
+-- their numbers, in the order of their first coming. These are its lines for the task, and what is told of the run: the bad lines that were
+-- passed over, and the summary of the graph.
 pub record IsTextFor (query : Query) (bytes text summary : List ℕ) : Type 0 where
   pub told : Told
   pub means : graph_meaning query.graph.dialect bytes ≡ Means told
@@ -119,5 +141,5 @@ pub record IsTextFor (query : Query) (bytes text summary : List ℕ) : Type 0 wh
   pub named : AreIds (names told) ids
   pub core : List ℕ
   pub numbers : AreCoreNumbers (start_graph ids told.edges) core
-  pub is : AreLinesFor query.format query.task ids (start_graph ids told.edges) core text
+  pub is : AreLinesFor query.format query.task (labels_of (graph_names query.graph.dialect bytes) ids) (start_graph ids told.edges) core text
   pub sums : summary ≡ skipped_report query.graph.file (passed_over query.graph.dialect bytes) ++ summary_line (start_graph ids told.edges) core

@@ -12,7 +12,7 @@ use Rattle.kc_dialect.specs.declared.dialect.Dialect.{Dialect}
 use Rattle.kc_dialect.specs.declared.skipped.SkippedLines.{SkippedLines}
 use Rattle.kc_dialect_read.specs.declared.plain_reader.DialectEdges.{DialectEdges}
 use Rattle.kc_head.specs.Heads.{head_of}
-use Rattle.kc_cores.specs.Answers.{graph_meaning, passed_over}
+use Rattle.kc_cores.specs.Answers.{graph_meaning, graph_names, passed_over}
 
 -- what is known of bytes that are not told
 abbrev pub no_bytes : Option (List ℕ)
@@ -75,6 +75,7 @@ pub record AreReadFrom (dialect : Option Dialect) (known : Option (List ℕ)) (f
   pub are : IsNamedEdges told found.named
   pub fit : HasFewIds found.named
   pub skipped : AreSkipped found.skipped (passed_over dialect bytes)
+  pub called : found.names ≡ graph_names dialect bytes
 
 -- The graph that the bytes mean, which are all of what is known of them, with the ids for which its vertices stand, and the bad lines that were
 -- passed over.
@@ -86,3 +87,9 @@ pub record IsGraphOf (dialect : Option Dialect) (known : Option (List ℕ)) (ids
   pub passed : AreSkipped skipped (passed_over dialect bytes)
   pub named : AreIds (names told) ids
   pub is : g ≡ start_graph ids told.edges
+
+-- The graph that the bytes mean, as `IsGraphOf` says, and the names for which its ids stand, where these are names.
+pub record IsNamedGraphOf (dialect : Option Dialect) (known : Option (List ℕ)) (ids : List ℕ) (called : Option (List (List ℕ))) (g : SimpleGraph)
+    (skipped : SkippedLines) : Type 0 where
+  pub graph : IsGraphOf dialect known ids g skipped
+  pub names : called ≡ graph_names dialect graph.bytes

@@ -6,6 +6,8 @@ use Rattle.kc_text.specs.declared.kind.Kind.TheVariants.{NotANumber, MissingFiel
 use Rattle.kc_text.specs.declared.kind.Kind.TheVariants.{EdgeLineInBatch, TooManyVertices, TooManyEdgeLines, TooManyUpdates, TooManyBatches, TooLong}
 use Rattle.kc_text.specs.declared.refusal.Refusal.{Refusal}
 use Rattle.kc_dialect.specs.declared.dialect.Dialect.{Dialect}
+use Rattle.kc_dialect.specs.declared.dialect.Ids.{Ids}
+use Rattle.kc_dialect.specs.declared.dialect.Ids.TheVariants.{Names, Numbers}
 use Rattle.kc_dialect.specs.declared.signatures.Signature.{Signature}
 use Rattle.kc_dialect.specs.declared.signatures.Signature.TheVariants.{Gzip, Bzip2, Xz, Zstd, Utf16Le, Utf16Be, MatrixMarket}
 use Rattle.kc_dialect_read.specs.declared.fault.PlacedRefusal.{PlacedRefusal}
@@ -20,7 +22,7 @@ use Rattle.kc_cores.specs.declared.input.FileFault.TheVariants.{Missing, Folder,
 -- what was found wrong with a line, and how it is mended
 abbrev pub sentence_of : Kind → List ℕ
 sentence_of NotANumber =
-    codes "a field is not a whole number; number the names of the vertices, begin a comment with #, or see --separator, --columns and --skip"
+    codes "a field is not a whole number; where ids are names see --ids, begin a comment with #, or see --separator, --columns and --skip"
 sentence_of MissingField = codes "the second id is missing; write two ids with a blank or a tab between them, or name what parts them by --separator"
 sentence_of ExtraField =
     codes "there are more than two fields; name the columns of the two ids, as by --columns 1,2, or write an adjacency list as edges, one a line"
@@ -42,15 +44,26 @@ at_line (suc n) = codes "line " ++ decimal (suc n)
 -- what was found wrong in a column of a dialect, and how it is mended
 abbrev pub column_sentence : Kind → List ℕ
 column_sentence NotANumber =
-    codes "the field is not a whole number; pass over a head by --skip, bad lines by --bad-lines skip, or see --separator and --columns"
+    codes "the field is not a whole number; pass over a head by --skip, bad lines by --bad-lines skip, or see --ids, --separator and --columns"
 column_sentence MissingField =
     codes "a column is missing; name the columns of the two ids by --columns, what parts them by --separator, or see --bad-lines skip"
 column_sentence kind = sentence_of kind
 
+-- the same where ids are names
+abbrev pub name_sentence : Kind → List ℕ
+name_sentence NotANumber =
+    codes "the field is no name: it is empty, is not UTF-8, or has a blank or a control character; see --separator, --columns and --bad-lines skip"
+name_sentence kind = column_sentence kind
+
+-- what was found wrong in a column, by what the ids are
+abbrev pub ids_sentence : Ids → Kind → List ℕ
+ids_sentence Numbers kind = column_sentence kind
+ids_sentence Names kind = name_sentence kind
+
 -- the same of a text that is in a dialect, or in none
 abbrev pub text_sentence : Option Dialect → Kind → List ℕ
 text_sentence None kind = sentence_of kind
-text_sentence (Some dialect) kind = column_sentence kind
+text_sentence (Some dialect) kind = ids_sentence dialect.ids kind
 
 -- what is told of a file of another format, and how edges are made of it
 abbrev pub format_sentence : Signature → List ℕ

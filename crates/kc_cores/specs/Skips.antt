@@ -13,6 +13,7 @@ abbrev pub skip_sentence : BadKind → List ℕ
 skip_sentence wrong.MissingColumn = codes "a column is missing"
 skip_sentence wrong.NotANumber = codes "the field is not a whole number"
 skip_sentence wrong.NumberTooLarge = codes "the number is greater than 4294967295"
+skip_sentence wrong.NotAName = codes "the field is no name"
 
 -- `cores: FILE: line 12, column 5: the field is not a whole number; the line was passed over`
 abbrev pub skipped_line : Option (List ℕ) → BadLine → List ℕ

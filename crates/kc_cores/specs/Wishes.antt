@@ -17,6 +17,8 @@ use Rattle.kc_dialect.specs.Names.{separator_of_name}
 use Rattle.kc_dialect.specs.declared.dialect.BadLines.{BadLines}
 use Rattle.kc_dialect.specs.declared.dialect.BadLines.TheVariants.{Skip, Stop}
 use Rattle.kc_dialect.specs.declared.dialect.Dialect.{Dialect}
+use Rattle.kc_dialect.specs.declared.dialect.Ids.{Ids}
+use Rattle.kc_dialect.specs.declared.dialect.Ids.TheVariants as ids
 use Rattle.kc_dialect.specs.declared.dialect.Separator.{Separator}
 use Rattle.kc_dialect.specs.declared.dialect.Separator.TheVariants.{Blank, Comma, Semicolon, Tab}
 use Rattle.kc_changes.specs.declared.show.Show.{Show}
@@ -61,9 +63,13 @@ output_option = value_option (codes "output")
 abbrev pub writing_command : Text → App
 writing_command name = with_rule (with_rule (quiet_command name) format_option) output_option
 
+-- `--ids KIND`
+abbrev pub ids_option : Rule
+ids_option = value_option (codes "ids")
+
 -- the command of a task, which takes the name of a file
 abbrev pub task_command : Text → App
-task_command name = with_rule (with_dialect (writing_command name)) (new_rule (codes "FILE"))
+task_command name = with_rule (with_rule (with_dialect (writing_command name)) ids_option) (new_rule (codes "FILE"))
 
 -- The command that reads the words, without those of the tasks. The words are those after the program's name.
 abbrev pub bare_command : App
@@ -253,11 +259,20 @@ abbrev pub bad_lines_in : Option Text → Option BadLines
 bad_lines_in None = Some Stop
 bad_lines_in (Some text) = bad_lines_of text
 
+-- what ids are, by this word
+abbrev pub ids_of : Text → Option Ids
+ids_of text = if bytes_eq text (codes "numbers") then Some ids.Numbers else if bytes_eq text (codes "names") then Some ids.Names else None
+
+-- what ids are: numbers where nothing else is said
+abbrev pub ids_in : Option Text → Option Ids
+ids_in None = Some ids.Numbers
+ids_in (Some text) = ids_of text
+
 -- the dialect of these parts, where there is each of them
-abbrev pub dialect_of : Option (ℕ × ℕ) → Option Separator → Option ℕ → Option BadLines → Option Dialect
-dialect_of (Some columns) (Some separator) (Some skip) (Some bad) =
-    Some (record { columns = columns; separator = separator; skip = skip; bad_lines = bad })
-dialect_of _ _ _ _ = None
+abbrev pub dialect_of : Option (ℕ × ℕ) → Option Separator → Option ℕ → Option BadLines → Option Ids → Option Dialect
+dialect_of (Some columns) (Some separator) (Some skip) (Some bad) (Some kind) =
+    Some (record { columns = columns; separator = separator; skip = skip; bad_lines = bad; ids = kind })
+dialect_of _ _ _ _ _ = None
 
 -- whether fields are parted by blanks
 abbrev pub is_blank_between : Separator → Bool
@@ -265,16 +280,16 @@ is_blank_between Blank = true
 is_blank_between _ = false
 
 -- whether neither an option nor the name of the file tells a dialect
-abbrev pub tells_none : Option Text → Option Text → Option Text → Option Text → Option Text → Bool
-tells_none None None None None file = is_blank_between (separator_of_file file)
-tells_none _ _ _ _ file = false
+abbrev pub tells_none : Option Text → Option Text → Option Text → Option Text → Option Text → Option Text → Bool
+tells_none None None None None None file = is_blank_between (separator_of_file file)
+tells_none _ _ _ _ _ file = false
 
--- The dialect that the values of the options `--columns`, `--separator`, `--skip` and `--bad-lines` and the name of the file tell, if they tell
--- one. There is nothing where a value is not right.
-abbrev pub dialect_by : Option Text → Option Text → Option Text → Option Text → Option Text → Option (Option Dialect)
-dialect_by columns separator skip bad file =
-    if tells_none columns separator skip bad file then Some None
-    else option_map (λ d. Some d) (dialect_of (columns_in columns) (separator_in separator file) (skip_in skip) (bad_lines_in bad))
+-- The dialect that the values of the options `--columns`, `--separator`, `--skip`, `--bad-lines` and `--ids` and the name of the file tell, if
+-- they tell one. There is nothing where a value is not right.
+abbrev pub dialect_by : Option Text → Option Text → Option Text → Option Text → Option Text → Option Text → Option (Option Dialect)
+dialect_by columns separator skip bad kind file =
+    if tells_none columns separator skip bad kind file then Some None
+    else option_map (λ d. Some d) (dialect_of (columns_in columns) (separator_in separator file) (skip_in skip) (bad_lines_in bad) (ids_in kind))
 
 -- the text of a file in a dialect, where the dialect is right
 abbrev pub text_with : Option Text → Option (Option Dialect) → Option GraphText
@@ -285,7 +300,7 @@ text_with file (Some dialect) = Some (record { file = file; dialect = dialect })
 abbrev pub text_by : Option Text → List Row → Option GraphText
 text_by file rows =
     text_with file (dialect_by (first_of (codes "columns") rows) (first_of (codes "separator") rows) (first_of (codes "skip") rows)
-    (first_of (codes "bad-lines") rows) file)
+    (first_of (codes "bad-lines") rows) (first_of (codes "ids") rows) file)
 
 -- the text of a graph, by the matches of a command
 abbrev pub text_in : List Row → Option GraphText

@@ -5,13 +5,14 @@ ghost use Rattle.clap.specs.Simple.{app_of};
 ghost use Rattle.clap.specs.Walk.{rows_of, rule_of};
 ghost use Rattle.clap.specs.declared.builder.command.Command.TheViews.{out-Command};
 ghost use Rattle.kc_cores.specs.Endings.{text_of};
-ghost use Rattle.kc_cores.specs.Wishes.{bad_lines_in, bad_lines_of, both_columns, columns_in, columns_of, dialect_by, dialect_of, file_named};
+ghost use Rattle.kc_cores.specs.Wishes.{bad_lines_in, bad_lines_of, both_columns, columns_in, columns_of, dialect_by, dialect_of, file_named, ids_in, ids_of};
+ghost use Rattle.kc_cores.specs.Wishes.{ids_option};
 ghost use Rattle.kc_cores.specs.Wishes.{is_blank_between, number_of, separator_in, separator_of, separator_of_file, skip_in, skip_option};
 ghost use Rattle.kc_cores.specs.Wishes.{tells_none, text_by, text_in, text_with, value_option, with_dialect};
 
 use crate::request::NamedText;
 use clap::{Arg, ArgAction, ArgMatches, Command};
-use kc_dialect::{BadLines, Dialect, Separator, separator_of_name};
+use kc_dialect::{BadLines, Dialect, Ids, Separator, separator_of_name};
 use kc_graph::NoMemory;
 use std::alloc::Global;
 
@@ -43,6 +44,19 @@ fn skip_option<'a>(alloc: Global) -> Arg<'a>
         .value_name("N")
         .value_parser(clap::value_parser!(u32))
         .help("How many lines at the top are passed over, as a head")
+}
+
+/// The option `--ids KIND`.
+pub(crate) fn ids_option<'a>(alloc: Global) -> Arg<'a>
+    ensures rule { rule_of result ≡ ids_option }
+    ensures local { result.global ≡ false }
+{
+    value_option(
+        alloc,
+        "ids",
+        "KIND",
+        "What the ids are: numbers, or names without blanks, as cores numbers --ids names people.txt",
+    )
 }
 
 /// The command with the options of a dialect.
@@ -176,21 +190,44 @@ fn bad_lines_in(text: Option<&str>) -> Option<BadLines>
     }
 }
 
+/// What ids are, by this word.
+fn ids_of(text: &str) -> Option<Ids>
+    ensures { result ≡ ids_of text.now }
+{
+    match text {
+        "numbers" => Some(Ids::Numbers),
+        "names" => Some(Ids::Names),
+        _ => None,
+    }
+}
+
+/// What ids are: numbers where nothing else is said.
+fn ids_in(text: Option<&str>) -> Option<Ids>
+    ensures { result ≡ ids_in (option_map (λ t. t.now) text.entry) }
+{
+    match text {
+        None => Some(Ids::Numbers),
+        Some(text) => ids_of(text),
+    }
+}
+
 /// The dialect of these parts, where there is each of them.
 fn dialect_of(
     columns: Option<(u32, u32)>,
     separator: Option<Separator>,
     skip: Option<u32>,
     bad_lines: Option<BadLines>,
+    ids: Option<Ids>,
 ) -> Option<Dialect>
-    ensures { result ≡ dialect_of columns separator skip bad_lines }
+    ensures { result ≡ dialect_of columns separator skip bad_lines ids }
 {
-    match (columns, separator, skip, bad_lines) {
-        (Some(columns), Some(separator), Some(skip), Some(bad_lines)) => Some(Dialect {
+    match (columns, separator, skip, bad_lines, ids) {
+        (Some(columns), Some(separator), Some(skip), Some(bad_lines), Some(ids)) => Some(Dialect {
             columns,
             separator,
             skip: u64::from(skip),
             bad_lines,
+            ids,
         }),
         _ => None,
     }
@@ -212,13 +249,15 @@ fn tells_none(
     separator: Option<&str>,
     skip: Option<&str>,
     bad_lines: Option<&str>,
+    ids: Option<&str>,
     file: Option<&str>,
 ) -> bool
     ensures { result ≡ tells_none (option_map (λ t. t.now) columns.entry) (option_map (λ t. t.now) separator.entry)
-        (option_map (λ t. t.now) skip.entry) (option_map (λ t. t.now) bad_lines.entry) (option_map (λ t. t.now) file.entry) }
+        (option_map (λ t. t.now) skip.entry) (option_map (λ t. t.now) bad_lines.entry) (option_map (λ t. t.now) ids.entry)
+        (option_map (λ t. t.now) file.entry) }
 {
-    match (columns, separator, skip, bad_lines) {
-        (None, None, None, None) => is_blank_between(separator_of_file(file)),
+    match (columns, separator, skip, bad_lines, ids) {
+        (None, None, None, None, None) => is_blank_between(separator_of_file(file)),
         _ => false,
     }
 }
@@ -229,12 +268,14 @@ fn dialect_by(
     separator: Option<&str>,
     skip: Option<&str>,
     bad_lines: Option<&str>,
+    ids: Option<&str>,
     file: Option<&str>,
 ) -> Option<Option<Dialect>>
     ensures { result ≡ dialect_by (option_map (λ t. t.now) columns.entry) (option_map (λ t. t.now) separator.entry)
-        (option_map (λ t. t.now) skip.entry) (option_map (λ t. t.now) bad_lines.entry) (option_map (λ t. t.now) file.entry) }
+        (option_map (λ t. t.now) skip.entry) (option_map (λ t. t.now) bad_lines.entry) (option_map (λ t. t.now) ids.entry)
+        (option_map (λ t. t.now) file.entry) }
 {
-    if tells_none(columns, separator, skip, bad_lines, file) {
+    if tells_none(columns, separator, skip, bad_lines, ids, file) {
         return Some(None);
     }
     let separator = separator_in(separator, file);
@@ -243,6 +284,7 @@ fn dialect_by(
         separator,
         skip_in(skip),
         bad_lines_in(bad_lines),
+        ids_in(ids),
     ) {
         None => None,
         Some(dialect) => Some(Some(dialect)),
@@ -277,7 +319,11 @@ fn text_by<'a>(file: Option<&'a str>, found: &ArgMatches<'a>) -> Option<NamedTex
     let separator = found.get_str("separator");
     let skip = found.get_str("skip");
     let bad_lines = found.get_str("bad-lines");
-    text_with(file, dialect_by(columns, separator, skip, bad_lines, file))
+    let ids = found.get_str("ids");
+    text_with(
+        file,
+        dialect_by(columns, separator, skip, bad_lines, ids, file),
+    )
 }
 
 /// The text of a graph, by the matches of a command.

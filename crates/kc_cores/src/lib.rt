@@ -18,12 +18,13 @@
 //! With `--output` the lines become a file of a folder, once all of them are written; where a fault comes before, the file is as it was
 //! (`specs/Saved.antt`).
 //!
-//! The options `--columns`, `--separator`, `--skip` and `--bad-lines` tell a dialect, as the end of a file's name does (`dialect_words`). A text
-//! in a dialect means what the plain text means for which it stands; without one it is read as it is, but for a byte order mark. The head of
-//! a text is looked at first (`kc_head`): where the text is refused, it tells what the text is, and shows the line.
+//! The options `--columns`, `--separator`, `--skip`, `--bad-lines` and `--ids` tell a dialect, as the end of a file's name does
+//! (`dialect_words`). A text in a dialect means what the text of numbers means for which it stands; without one it is read as it is, but for
+//! a byte order mark. Where ids are names, lines have the names in their place (`labels`). The head of a text is looked at first (`kc_head`):
+//! where the text is refused, it tells what the text is, and shows the line.
 //!
 //! The crate stands on `kc_io` for sources and sinks, on `kc_text` for what a text means, on `kc_dialect` and `kc_dialect_read` for
-//! dialects, on `kc_head` for the head of a text, on `kc_flat` and `kc_graph` for core numbers, on `kc_tally` for layers, on
+//! dialects, on `kc_names` for names, on `kc_head` for the head of a text, on `kc_flat` and `kc_graph` for core numbers, on `kc_tally` for layers, on
 //! `kc_claims` for certificates, on `kc_wire`, `kc_dialogue`, `kc_stream` and `kc_watch` for streams, on `kc_lines` for lines,
 //! on `kc_files` for files that are replaced whole, and on `clap`.
 #![tactic(auto)]
@@ -35,6 +36,7 @@ mod dialect_words;
 mod ending;
 mod front;
 pub mod input;
+mod labels;
 mod lines;
 mod listing;
 mod made_lines;

@@ -2,6 +2,7 @@
 ghost use Rattle.std.specs.Prelude.{◌≡◌, OnErr, OnOk};
 ghost use Rattle.kc_io.specs.Causes.{HasCause};
 ghost use Rattle.kc_lines.specs.Pages.{PassesOn, PassesPart};
+ghost use Rattle.kc_lines.specs.Fields.{label_of};
 ghost use Rattle.kc_cores.specs.Lines.{counts_line, edge_line, layer_line, member_line, number_line};
 
 use kc_io::Failed;
@@ -10,24 +11,28 @@ use kc_lines::field::Field;
 use kc_lines::format::Format;
 use kc_lines::lines::put_line;
 use kc_lines::page::Page;
+use kc_lines::value::Value;
 
 /// Puts the line of an id and its core number.
 pub(crate) fn put_number_line<O: Sink>(
     page: &mut Page,
     out: &mut O,
     format: Format,
-    id: u64,
+    id: Value<'_>,
     core: u64,
 ) -> Result<(), Failed>
-    ensures passes { OnOk result (PassesOn (O.taken out.old) (O.taken out.new) page.old page.new (number_line format id core)) }
-    ensures part { OnErr result (PassesPart (O.taken out.old) (O.taken out.new) page.old (number_line format id core)) }
+    ensures passes { OnOk result (PassesOn (O.taken out.old) (O.taken out.new) page.old page.new (number_line format (label_of id.entry) core)) }
+    ensures part { OnErr result (PassesPart (O.taken out.old) (O.taken out.new) page.old (number_line format (label_of id.entry) core)) }
     ensures cause { HasCause (O.faults out.old) (O.faults out.new) result }
 {
     put_line(
         page,
         out,
         format,
-        &[Field::new("id", id), Field::new("core", core)],
+        &[
+            Field::new("id", id),
+            Field::new("core", Value::Number(core)),
+        ],
     )
 }
 
@@ -48,10 +53,10 @@ pub(crate) fn put_counts_line<O: Sink>(
         out,
         format,
         &[
-            Field::new("core", k),
-            Field::new("shell_vertices", shell),
-            Field::new("core_vertices", vertices),
-            Field::new("core_edges", edges),
+            Field::new("core", Value::Number(k)),
+            Field::new("shell_vertices", Value::Number(shell)),
+            Field::new("core_vertices", Value::Number(vertices)),
+            Field::new("core_edges", Value::Number(edges)),
         ],
     )
 }
@@ -61,10 +66,10 @@ pub(crate) fn put_member_line<O: Sink>(
     page: &mut Page,
     out: &mut O,
     format: Format,
-    id: u64,
+    id: Value<'_>,
 ) -> Result<(), Failed>
-    ensures passes { OnOk result (PassesOn (O.taken out.old) (O.taken out.new) page.old page.new (member_line format id)) }
-    ensures part { OnErr result (PassesPart (O.taken out.old) (O.taken out.new) page.old (member_line format id)) }
+    ensures passes { OnOk result (PassesOn (O.taken out.old) (O.taken out.new) page.old page.new (member_line format (label_of id.entry))) }
+    ensures part { OnErr result (PassesPart (O.taken out.old) (O.taken out.new) page.old (member_line format (label_of id.entry))) }
     ensures cause { HasCause (O.faults out.old) (O.faults out.new) result }
 {
     put_line(page, out, format, &[Field::new("id", id)])
@@ -75,11 +80,13 @@ pub(crate) fn put_edge_line<O: Sink>(
     page: &mut Page,
     out: &mut O,
     format: Format,
-    source: u64,
-    target: u64,
+    source: Value<'_>,
+    target: Value<'_>,
 ) -> Result<(), Failed>
-    ensures passes { OnOk result (PassesOn (O.taken out.old) (O.taken out.new) page.old page.new (edge_line format source target)) }
-    ensures part { OnErr result (PassesPart (O.taken out.old) (O.taken out.new) page.old (edge_line format source target)) }
+    ensures passes { OnOk result (PassesOn (O.taken out.old) (O.taken out.new) page.old page.new
+        (edge_line format (label_of source.entry) (label_of target.entry))) }
+    ensures part { OnErr result (PassesPart (O.taken out.old) (O.taken out.new) page.old
+        (edge_line format (label_of source.entry) (label_of target.entry))) }
     ensures cause { HasCause (O.faults out.old) (O.faults out.new) result }
 {
     put_line(
@@ -95,12 +102,12 @@ pub(crate) fn put_layer_line<O: Sink>(
     page: &mut Page,
     out: &mut O,
     format: Format,
-    id: u64,
+    id: Value<'_>,
     core: u64,
     layer: u64,
 ) -> Result<(), Failed>
-    ensures passes { OnOk result (PassesOn (O.taken out.old) (O.taken out.new) page.old page.new (layer_line format id core layer)) }
-    ensures part { OnErr result (PassesPart (O.taken out.old) (O.taken out.new) page.old (layer_line format id core layer)) }
+    ensures passes { OnOk result (PassesOn (O.taken out.old) (O.taken out.new) page.old page.new (layer_line format (label_of id.entry) core layer)) }
+    ensures part { OnErr result (PassesPart (O.taken out.old) (O.taken out.new) page.old (layer_line format (label_of id.entry) core layer)) }
     ensures cause { HasCause (O.faults out.old) (O.faults out.new) result }
 {
     put_line(
@@ -109,8 +116,8 @@ pub(crate) fn put_layer_line<O: Sink>(
         format,
         &[
             Field::new("id", id),
-            Field::new("core", core),
-            Field::new("layer", layer),
+            Field::new("core", Value::Number(core)),
+            Field::new("layer", Value::Number(layer)),
         ],
     )
 }

@@ -5,6 +5,7 @@ ghost use Rattle.kc_io.specs.Causes.{HasCause};
 ghost use Rattle.kc_graph.specs.Certificate.{Certifies};
 ghost use Rattle.kc_graph.specs.Core.{AreCoreNumbers};
 ghost use Rattle.kc_tally.specs.Layers.{AreLayers};
+ghost use Rattle.kc_lines.specs.Fields.{Label};
 ghost use Rattle.kc_lines.specs.declared.format.Format.{Format};
 ghost use Rattle.kc_cores.specs.Answers.{AreLinesFor, level_of};
 ghost use Rattle.kc_cores.specs.Listings.{Fits, edge_line_in, layer_line_in, line_at, listing_lines, member_line_in};
@@ -27,7 +28,7 @@ use kc_lines::page::Page;
 use kc_tally::layers;
 use std::alloc::Global;
 
-/// What the lines of a task need beside the ids and the core numbers.
+/// What the lines of a task need beside the labels and the core numbers.
 #[derive(Drop)]
 pub(crate) enum Listing {
     /// For each vertex its id and its core number.
@@ -89,8 +90,8 @@ pub(crate) fn listing_of(
 ) -> Result<Listing, NoMemory>
     requires { Certifies graph.now core.now order.items }
     ensures fits { IfOk result (λ listing. Fits graph.now.size listing) }
-    ensures lines { IfOk result (λ listing. (format : Format) (ids : List ℕ) → length ids ≡ graph.now.size
-        → AreLinesFor format task ids graph.now core.now (listing_lines format listing ids core.now)) }
+    ensures lines { IfOk result (λ listing. (format : Format) (labels : List Label) → length labels ≡ graph.now.size
+        → AreLinesFor format task labels graph.now core.now (listing_lines format listing labels core.now)) }
 {
     match task {
         Task::Numbers => Ok(Listing::Numbers),
@@ -113,19 +114,19 @@ fn put_vertex<O: Sink>(
     vertices: &Vertices<'_>,
     v: usize,
 ) -> Result<(), Failed>
-    requires same { length vertices.now.ids.now ≡ length vertices.now.core.now }
-    requires within { v < length vertices.now.ids.now }
+    requires same { length vertices.now.labels.now ≡ length vertices.now.core.now }
+    requires within { v < length vertices.now.labels.now }
     ensures passes { OnOk result (PassesOn (O.taken out.old) (O.taken out.new) page.old page.new
-        (vertex_line format vertices.now.ids.now vertices.now.core.now v)) }
+        (vertex_line format vertices.now.labels.now vertices.now.core.now v)) }
     ensures part { OnErr result (PassesPart (O.taken out.old) (O.taken out.new) page.old
-        (vertex_line format vertices.now.ids.now vertices.now.core.now v)) }
+        (vertex_line format vertices.now.labels.now vertices.now.core.now v)) }
     ensures cause { HasCause (O.faults out.old) (O.faults out.new) result }
 {
     put_number_line(
         page,
         out,
         format,
-        u64::from(vertices.ids[v]),
+        vertices.labels.get(v),
         u64::from(vertices.core[v]),
     )
 }
@@ -162,16 +163,16 @@ fn put_member<O: Sink>(
     vertices: &Vertices<'_>,
     v: usize,
 ) -> Result<(), Failed>
-    requires same { length vertices.now.ids.now ≡ length vertices.now.core.now }
-    requires within { v < length vertices.now.ids.now }
+    requires same { length vertices.now.labels.now ≡ length vertices.now.core.now }
+    requires within { v < length vertices.now.labels.now }
     ensures passes { OnOk result (PassesOn (O.taken out.old) (O.taken out.new) page.old page.new
-        (member_line_in format least vertices.now.ids.now vertices.now.core.now v)) }
+        (member_line_in format least vertices.now.labels.now vertices.now.core.now v)) }
     ensures part { OnErr result (PassesPart (O.taken out.old) (O.taken out.new) page.old
-        (member_line_in format least vertices.now.ids.now vertices.now.core.now v)) }
+        (member_line_in format least vertices.now.labels.now vertices.now.core.now v)) }
     ensures cause { HasCause (O.faults out.old) (O.faults out.new) result }
 {
     if least <= vertices.core[v] {
-        put_member_line(page, out, format, u64::from(vertices.ids[v]))
+        put_member_line(page, out, format, vertices.labels.get(v))
     } else {
         Ok(())
     }
@@ -186,13 +187,13 @@ fn put_edge<O: Sink>(
     vertices: &Vertices<'_>,
     edge: (u32, u32),
 ) -> Result<(), Failed>
-    requires same { length vertices.now.ids.now ≡ length vertices.now.core.now }
-    requires first { edge.0 < length vertices.now.ids.now }
-    requires second { edge.1 < length vertices.now.ids.now }
+    requires same { length vertices.now.labels.now ≡ length vertices.now.core.now }
+    requires first { edge.0 < length vertices.now.labels.now }
+    requires second { edge.1 < length vertices.now.labels.now }
     ensures passes { OnOk result (PassesOn (O.taken out.old) (O.taken out.new) page.old page.new
-        (edge_line_in format least vertices.now.ids.now vertices.now.core.now edge)) }
+        (edge_line_in format least vertices.now.labels.now vertices.now.core.now edge)) }
     ensures part { OnErr result (PassesPart (O.taken out.old) (O.taken out.new) page.old
-        (edge_line_in format least vertices.now.ids.now vertices.now.core.now edge)) }
+        (edge_line_in format least vertices.now.labels.now vertices.now.core.now edge)) }
     ensures cause { HasCause (O.faults out.old) (O.faults out.new) result }
 {
     let (u, v) = edge;
@@ -201,8 +202,8 @@ fn put_edge<O: Sink>(
             page,
             out,
             format,
-            u64::from(vertices.ids[u as usize]),
-            u64::from(vertices.ids[v as usize]),
+            vertices.labels.get(u as usize),
+            vertices.labels.get(v as usize),
         )
     } else {
         Ok(())
@@ -218,20 +219,20 @@ fn put_layer<O: Sink>(
     layer: &[u32],
     v: usize,
 ) -> Result<(), Failed>
-    requires same { length vertices.now.ids.now ≡ length vertices.now.core.now }
+    requires same { length vertices.now.labels.now ≡ length vertices.now.core.now }
     requires one_each { length layer.now ≡ length vertices.now.core.now }
-    requires within { v < length vertices.now.ids.now }
+    requires within { v < length vertices.now.labels.now }
     ensures passes { OnOk result (PassesOn (O.taken out.old) (O.taken out.new) page.old page.new
-        (layer_line_in format vertices.now.ids.now vertices.now.core.now layer.now v)) }
+        (layer_line_in format vertices.now.labels.now vertices.now.core.now layer.now v)) }
     ensures part { OnErr result (PassesPart (O.taken out.old) (O.taken out.new) page.old
-        (layer_line_in format vertices.now.ids.now vertices.now.core.now layer.now v)) }
+        (layer_line_in format vertices.now.labels.now vertices.now.core.now layer.now v)) }
     ensures cause { HasCause (O.faults out.old) (O.faults out.new) result }
 {
     put_layer_line(
         page,
         out,
         format,
-        u64::from(vertices.ids[v]),
+        vertices.labels.get(v),
         u64::from(vertices.core[v]),
         u64::from(layer[v]),
     )
@@ -246,13 +247,13 @@ fn put_at<O: Sink>(
     vertices: &Vertices<'_>,
     place: usize,
 ) -> Result<(), Failed>
-    requires same { length vertices.now.ids.now ≡ length vertices.now.core.now }
-    requires fits { Fits (length vertices.now.ids.now) listing.now }
-    requires within { place < places listing.now (length vertices.now.ids.now) }
+    requires same { length vertices.now.labels.now ≡ length vertices.now.core.now }
+    requires fits { Fits (length vertices.now.labels.now) listing.now }
+    requires within { place < places listing.now (length vertices.now.labels.now) }
     ensures passes { OnOk result (PassesOn (O.taken out.old) (O.taken out.new) page.old page.new
-        (line_at format listing.now vertices.now.ids.now vertices.now.core.now place)) }
+        (line_at format listing.now vertices.now.labels.now vertices.now.core.now place)) }
     ensures part { OnErr result (PassesPart (O.taken out.old) (O.taken out.new) page.old
-        (line_at format listing.now vertices.now.ids.now vertices.now.core.now place)) }
+        (line_at format listing.now vertices.now.labels.now vertices.now.core.now place)) }
     ensures cause { HasCause (O.faults out.old) (O.faults out.new) result }
 {
     match listing {
@@ -275,15 +276,15 @@ fn put_lines<O: Sink>(
     listing: &Listing,
     vertices: &Vertices<'_>,
 ) -> Result<(), Failed>
-    requires same { length vertices.now.ids.now ≡ length vertices.now.core.now }
-    requires fits { Fits (length vertices.now.ids.now) listing.now }
+    requires same { length vertices.now.labels.now ≡ length vertices.now.core.now }
+    requires fits { Fits (length vertices.now.labels.now) listing.now }
     ensures passes { OnOk result (PassesOn (O.taken out.old) (O.taken out.new) page.old page.new
-        (listing_lines format listing.now vertices.now.ids.now vertices.now.core.now)) }
+        (listing_lines format listing.now vertices.now.labels.now vertices.now.core.now)) }
     ensures part { OnErr result (PassesPart (O.taken out.old) (O.taken out.new) page.old
-        (listing_lines format listing.now vertices.now.ids.now vertices.now.core.now)) }
+        (listing_lines format listing.now vertices.now.labels.now vertices.now.core.now)) }
     ensures cause { HasCause (O.faults out.old) (O.faults out.new) result }
 {
-    for place in 0..listing.places(vertices.ids.len()) {
+    for place in 0..listing.places(vertices.labels.len()) {
         put_at(page, out, format, listing, vertices, place)?;
     }
     Ok(())
@@ -297,13 +298,13 @@ pub(crate) fn write_lines<O: Sink>(
     listing: &Listing,
     vertices: &Vertices<'_>,
 ) -> Result<(), Failed>
-    requires same { length vertices.now.ids.now ≡ length vertices.now.core.now }
-    requires fits { Fits (length vertices.now.ids.now) listing.now }
+    requires same { length vertices.now.labels.now ≡ length vertices.now.core.now }
+    requires fits { Fits (length vertices.now.labels.now) listing.now }
     requires empty { page ≡ [] }
     ensures whole { OnOk result (Appends (O.taken out.old) (O.taken out.new)
-        (listing_lines format listing.now vertices.now.ids.now vertices.now.core.now)) }
-    ensures prefix { OnErr result ((n : ℕ) × (n ≤ length (listing_lines format listing.now vertices.now.ids.now vertices.now.core.now))
-        × Appends (O.taken out.old) (O.taken out.new) (take n (listing_lines format listing.now vertices.now.ids.now vertices.now.core.now))) }
+        (listing_lines format listing.now vertices.now.labels.now vertices.now.core.now)) }
+    ensures prefix { OnErr result ((n : ℕ) × (n ≤ length (listing_lines format listing.now vertices.now.labels.now vertices.now.core.now))
+        × Appends (O.taken out.old) (O.taken out.new) (take n (listing_lines format listing.now vertices.now.labels.now vertices.now.core.now))) }
     ensures cause { HasCause (O.faults out.old) (O.faults out.new) result }
 {
     put_lines(&mut page, out, format, listing, vertices)?;

@@ -4,6 +4,7 @@ ghost use Rattle.std.specs.Io.KnownBytes.{Appends};
 ghost use Rattle.kc_io.specs.Causes.{HasCause};
 ghost use Rattle.kc_cores.specs.Listings.{AreReady, made_text};
 
+use crate::labels::Labels;
 use crate::listing::{Listing, write_lines};
 use crate::vertices::Vertices;
 use kc_io::Failed;
@@ -16,8 +17,8 @@ use kc_lines::page::Page;
 pub(crate) struct MadeLines {
     pub(crate) format: Format,
     pub(crate) listing: Listing,
-    /// The id of each vertex.
-    pub(crate) ids: Vec<u32>,
+    /// What is written for each vertex.
+    pub(crate) labels: Labels,
     /// The core number of each vertex.
     pub(crate) core: Vec<u32>,
     pub(crate) page: Page,
@@ -34,12 +35,12 @@ impl MadeLines {
         let MadeLines {
             format,
             listing,
-            ids,
+            labels,
             core,
             page,
         } = self;
         let vertices = Vertices {
-            ids: &ids,
+            labels: &labels,
             core: &core,
         };
         write_lines(page, out, format, &listing, &vertices)

@@ -11,6 +11,7 @@ ghost use Rattle.kc_cores.specs.Wishes.{Asks};
 
 use crate::ending::Ending;
 use crate::input::FileInput;
+use crate::labels::Labels;
 use crate::listing::listing_of;
 use crate::made_lines::MadeLines;
 use crate::reading::{NamedGraph, read_graph};
@@ -63,6 +64,7 @@ pub(crate) fn prepare<I: FileInput>(
 {
     let NamedGraph {
         ids,
+        names,
         graph,
         skipped,
     } = read_graph(alloc, request.graph, input)?;
@@ -70,10 +72,11 @@ pub(crate) fn prepare<I: FileInput>(
     let told = told_of(alloc, request.graph.file, &skipped, &graph, &core)?;
     let listing = listing_of(alloc, request.task, &graph, &core, order)?;
     let page = Page::new(alloc)?;
+    let labels = Labels::new(ids, names);
     let lines = MadeLines {
         format: request.format,
         listing,
-        ids,
+        labels,
         core,
         page,
     };

@@ -3,7 +3,7 @@ ghost use Rattle.std.specs.FinSet as set;
 ghost use Rattle.std.specs.Prelude.{◌≡◌, ◌≤◌, ℕ, List, None, Option, Some, IfErr, IfOk, IfSome, OnOk, length, option_map};
 ghost use Rattle.std.specs.Io.KnownBytes.{IsAtEnd};
 ghost use Rattle.kc_cores.specs.Endings.{HasNoFileGraph, HasNoGraph, text_of};
-ghost use Rattle.kc_cores.specs.Inputs.{AreReadFrom, HasFewIds, IsGraphOf, IsLookedAt, known_bytes, text_bytes};
+ghost use Rattle.kc_cores.specs.Inputs.{AreReadFrom, HasFewIds, IsLookedAt, IsNamedGraphOf, known_bytes, text_bytes};
 ghost use Rattle.kc_cores.specs.Wishes.{GraphText};
 
 use crate::ending::{Ending, refused, unopened};
@@ -15,15 +15,18 @@ use kc_flat::FlatGraph;
 use kc_graph::NoMemory;
 use kc_head::{HeadFault, read_head, wrong_column};
 use kc_io::source::Source;
+use kc_names::Names;
 use kc_read::{InputFault, read_edges};
 use kc_text::{Limits, NamedEdges};
 use std::alloc::Global;
 
-/// A graph, and the ids that its vertices stand for.
+/// A graph, and the ids or names that its vertices stand for.
 #[derive(Drop)]
 pub(crate) struct NamedGraph {
     /// Ascending: the vertex `i` stands for `ids[i]`.
     pub(crate) ids: Vec<u32>,
+    /// The names for which the ids stand, where ids are names.
+    pub(crate) names: Option<Names>,
     pub(crate) graph: FlatGraph,
     /// The bad lines that were passed over.
     pub(crate) skipped: SkippedLines,
@@ -81,6 +84,7 @@ fn plain_edges<S: Source>(
                 count: 0,
                 first: Vec::new(alloc),
             },
+            names: None,
         }),
         Err(InputFault::ReadFault) => Err(Ending::read_fault()),
         Err(InputFault::Refused(refusal)) => {
@@ -153,13 +157,19 @@ fn graph_of(alloc: Global, found: DialectEdges) -> Result<NamedGraph, NoMemory>
     requires { HasFewIds found.named }
     ensures ids { IfOk result (λ named. named.ids.items ≡ found.named.ids.items) }
     ensures graph { IfOk result (λ named. named.graph ≡ record { size = length found.named.ids.items; edges = set.from_list found.named.edges.items }) }
+    ensures names { IfOk result (λ named. named.names ≡ found.names) }
     ensures skipped { IfOk result (λ named. named.skipped ≡ found.skipped) }
 {
-    let DialectEdges { named, skipped } = found;
+    let DialectEdges {
+        named,
+        skipped,
+        names,
+    } = found;
     let NamedEdges { ids, edges } = named;
     let graph = FlatGraph::from_pairs(alloc, ids.len() as u32, &edges)?;
     Ok(NamedGraph {
         ids,
+        names,
         graph,
         skipped,
     })
@@ -173,7 +183,7 @@ fn graph_behind<S: Source>(
     source: &mut S,
 ) -> Result<NamedGraph, Ending>
     ensures graph { (known : Option (List ℕ)) → IsLookedAt text.entry.dialect known (S.left source.old) head.now
-        → IfOk result (λ named. IsGraphOf text.entry.dialect known named.ids.items named.graph named.skipped) }
+        → IfOk result (λ named. IsNamedGraphOf text.entry.dialect known named.ids.items named.names named.graph named.skipped) }
     ensures read { OnOk result (IsAtEnd (S.left source.new)) }
     ensures stopped { (known : Option (List ℕ)) → IsLookedAt text.entry.dialect known (S.left source.old) head.now
         → IfErr result (λ ending. HasNoGraph ending (text_of text.entry) known (S.faults source.old) (S.faults source.new)) }
@@ -189,7 +199,7 @@ fn graph_from<I: FileInput>(
     text: NamedText<'_>,
     input: &mut I,
 ) -> Result<NamedGraph, Ending>
-    ensures graph { IfOk result (λ named. IsGraphOf text.entry.dialect (I.left input.old) named.ids.items named.graph named.skipped) }
+    ensures graph { IfOk result (λ named. IsNamedGraphOf text.entry.dialect (I.left input.old) named.ids.items named.names named.graph named.skipped) }
     ensures read { OnOk result (IsAtEnd (I.left input.new)) }
     ensures stopped { IfErr result (λ ending. HasNoGraph ending (text_of text.entry) (I.left input.old) (I.faults input.old) (I.faults input.new)) }
     ensures faultless { OnOk result (I.faults input.new ≡ I.faults input.old) }
@@ -218,8 +228,8 @@ pub(crate) fn read_graph<I: FileInput>(
     text: NamedText<'_>,
     input: &mut I,
 ) -> Result<NamedGraph, Ending>
-    ensures graph { IfOk result (λ named. IsGraphOf text.entry.dialect (known_bytes I.left I.behind (text_of text.entry).file input.old)
-        named.ids.items named.graph named.skipped) }
+    ensures graph { IfOk result (λ named. IsNamedGraphOf text.entry.dialect (known_bytes I.left I.behind (text_of text.entry).file input.old)
+        named.ids.items named.names named.graph named.skipped) }
     ensures read { OnOk result (IsAtEnd (I.left input.new)) }
     ensures stopped { IfErr result (λ ending. HasNoFileGraph ending (text_of text.entry)
         (known_bytes I.left I.behind (text_of text.entry).file input.old) (I.faults input.old) (I.faults input.new)) }

@@ -1,9 +1,9 @@
 //! What is wrong with a line that is refused, and how it is mended.
 ghost use Rattle.std.specs.Prelude.{◌≡◌};
 ghost use Rattle.kc_cores.specs.Sentences.{column_sentence, foreign, foreign_sentence, format_sentence, sentence_for, sentence_of};
-ghost use Rattle.kc_cores.specs.Sentences.{stream_sentence, text_sentence};
+ghost use Rattle.kc_cores.specs.Sentences.{ids_sentence, name_sentence, stream_sentence, text_sentence};
 
-use kc_dialect::{Dialect, Signature};
+use kc_dialect::{Dialect, Ids, Signature};
 use kc_head::{Foreign, foreign_in};
 use kc_text::Kind;
 
@@ -13,7 +13,7 @@ pub(crate) fn sentence_of(kind: Kind) -> &'static str
 {
     match kind {
         Kind::NotANumber => {
-            "a field is not a whole number; number the names of the vertices, begin a comment with #, or see --separator, --columns and --skip"
+            "a field is not a whole number; where ids are names see --ids, begin a comment with #, or see --separator, --columns and --skip"
         }
         Kind::MissingField => {
             "the second id is missing; write two ids with a blank or a tab between them, or name what parts them by --separator"
@@ -54,7 +54,7 @@ fn column_sentence(kind: Kind) -> &'static str
 {
     match kind {
         Kind::NotANumber => {
-            "the field is not a whole number; pass over a head by --skip, bad lines by --bad-lines skip, or see --separator and --columns"
+            "the field is not a whole number; pass over a head by --skip, bad lines by --bad-lines skip, or see --ids, --separator and --columns"
         }
         Kind::MissingField => {
             "a column is missing; name the columns of the two ids by --columns, what parts them by --separator, or see --bad-lines skip"
@@ -63,12 +63,34 @@ fn column_sentence(kind: Kind) -> &'static str
     }
 }
 
+/// What was found wrong in a column of a dialect of names, and how it is mended.
+fn name_sentence(kind: Kind) -> &'static str
+    ensures { result.now ≡ name_sentence kind }
+{
+    match kind {
+        Kind::NotANumber => {
+            "the field is no name: it is empty, is not UTF-8, or has a blank or a control character; see --separator, --columns and --bad-lines skip"
+        }
+        kind => column_sentence(kind),
+    }
+}
+
+/// What was found wrong in a column, by what the ids are.
+fn ids_sentence(ids: Ids, kind: Kind) -> &'static str
+    ensures { result.now ≡ ids_sentence ids kind }
+{
+    match ids {
+        Ids::Numbers => column_sentence(kind),
+        Ids::Names => name_sentence(kind),
+    }
+}
+
 /// What was found wrong in a text that is in a dialect, or in none, and how it is mended.
 fn text_sentence(dialect: Option<Dialect>, kind: Kind) -> &'static str
     ensures { result.now ≡ text_sentence dialect kind }
 {
     match dialect {
-        Some(_) => column_sentence(kind),
+        Some(dialect) => ids_sentence(dialect.ids, kind),
         None => sentence_of(kind),
     }
 }

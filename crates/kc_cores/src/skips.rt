@@ -15,6 +15,7 @@ fn skip_sentence(kind: BadKind) -> &'static str
         BadKind::MissingColumn => "a column is missing",
         BadKind::NotANumber => "the field is not a whole number",
         BadKind::NumberTooLarge => "the number is greater than 4294967295",
+        BadKind::NotAName => "the field is no name",
     }
 }
 

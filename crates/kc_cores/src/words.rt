@@ -15,7 +15,7 @@ ghost use Rattle.kc_cores.specs.Wishes.{options_in, task_command, task_in, watch
 ghost use Rattle.kc_cores.specs.Wishes.{stream_flag, stream_wish, wish_to, with_tasks, writing_command};
 ghost use Rattle.kc_cores.specs.Endings.{IsReplyFor, IsRequestFor, RepliesTo, query_of, text_of};
 
-use crate::dialect_words::{file_named, number_of, text_in, with_dialect};
+use crate::dialect_words::{file_named, ids_option, number_of, text_in, with_dialect};
 use crate::output_words::{format_in, format_option, output_option};
 use crate::request::{CheckRequest, NamedText, Request, SaveRequest, StreamRequest, Task, Wanted};
 use crate::watch_words::{options_of, show_in, watch_command};
@@ -102,11 +102,8 @@ fn task_command<'a>(
     ensures app { IfOk result (λ made. app_of made ≡ task_command name.entry.now) }
     ensures local { IfOk result (λ made. (out-Command made).has_globals ≡ false) }
 {
-    let file = Arg::new(alloc, "FILE").help(
-        "The edge list, two ids a line; standard input where it is - or none is named",
-    );
     let command = with_dialect(alloc, writing_command(alloc, name, about, example)?)?;
-    command.arg(file)
+    command.arg(ids_option(alloc))?.arg(edges_rule(alloc))
 }
 
 /// The command whose words are read, without those of the tasks.
@@ -370,7 +367,8 @@ fn wrong_value(alloc: Global) -> Reply
 {
     match String::from_str(
         alloc,
-        "cores: --columns takes two unlike numbers, as 1,2; --separator blank, comma, semicolon or tab; --bad-lines stop or skip; --format tsv or json\n",
+        "cores: --columns takes two unlike numbers, as 1,2; --separator blank, comma, semicolon or tab; --bad-lines stop or skip; \
+         --ids numbers or names; --format tsv or json\n",
     ) {
         Ok(text) => Reply::Mistake(text),
         Err(_) => Reply::NoMemory,

@@ -2,7 +2,7 @@
 ghost use Rattle.std.specs.Prelude.{◌≤◌, length};
 
 use kc_dialect::{
-    BadKind, BadLine, BadLines, Dialect, RewriteFault, Rewriter, Separator, SkippedLines,
+    BadKind, BadLine, BadLines, Dialect, Ids, RewriteFault, Rewriter, Separator, SkippedLines,
 };
 use std::alloc::Global;
 use std::process::Abort;
@@ -13,6 +13,14 @@ fn parted(separator: Separator) -> Dialect {
     Dialect {
         separator,
         ..Dialect::PLAIN
+    }
+}
+
+/// Names in the first two columns, as they are parted.
+fn named(separator: Separator) -> Dialect {
+    Dialect {
+        ids: Ids::Names,
+        ..parted(separator)
     }
 }
 
@@ -137,6 +145,44 @@ fn files_between_separators(rt: HostRuntime) -> Result<(), Fail> {
         ..comma
     };
     check_text(&rt, behind, b"\"Doe, John\",1,2\n", b"2 1\n")
+}
+
+#[test]
+fn files_of_names(rt: HostRuntime) -> Result<(), Fail> {
+    let blank = named(Separator::Blank);
+    check_text(
+        &rt,
+        blank,
+        b"# who whom\nAnn Bob 3\r\n\n  Bob\tEve\n",
+        b"\nAnn Bob\n\nBob Eve\n",
+    )?;
+    // words of a plain text, a name like a comment in the second column, digits, and letters of more than one byte
+    check_text(
+        &rt,
+        blank,
+        b"batch +\n- #1\n12 013\n\xc3\xa4 \xe6\x9d\xb1",
+        b"batch +\n- #1\n12 013\n\xc3\xa4 \xe6\x9d\xb1\n",
+    )?;
+    check_text(
+        &rt,
+        named(Separator::Comma),
+        b"\"Doe,J\", O'Neil ,x y\n",
+        b"Doe,J O'Neil\n",
+    )
+}
+
+#[test]
+fn lines_without_names_end_the_reading(rt: HostRuntime) -> Result<(), Fail> {
+    let blank = named(Separator::Blank);
+    let comma = named(Separator::Comma);
+    check_bad(&rt, blank, b"Ann Bob\nAnn\n", 2, 4, BadKind::MissingColumn)?;
+    check_bad(&rt, comma, b"Ann,\n", 1, 5, BadKind::NotAName)?;
+    check_bad(&rt, comma, b"Ann, New York\n", 1, 6, BadKind::NotAName)?;
+    check_bad(&rt, comma, b"Ann,\"a\tb\"\n", 1, 5, BadKind::NotAName)?;
+    // a control character, the one behind the letters, and bytes that are no UTF-8
+    check_bad(&rt, blank, b"Ann B\x07b\n", 1, 5, BadKind::NotAName)?;
+    check_bad(&rt, blank, b"\x7f Bob\n", 1, 1, BadKind::NotAName)?;
+    check_bad(&rt, blank, b"Ann B\xe4r\n", 1, 5, BadKind::NotAName)
 }
 
 #[test]

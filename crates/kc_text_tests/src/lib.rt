@@ -1,7 +1,7 @@
-//! Tests of `kc_text`, `kc_report`, `kc_dialect` and `kc_head`.
+//! Tests of `kc_text`, `kc_report`, `kc_dialect`, `kc_names`, `kc_dialect_read` and `kc_head`.
 //!
 //! What texts give, which line is refused, and the bytes of lines and of a generated text. The plain texts of files as people hold them, their
-//! bad lines, and what the first bytes of a file tell.
+//! bad lines, the numbers of names, and what the first bytes of a file tell.
 //!
 //! The crate has no code but its tests. They stand apart from those crates, whose own functions would be proved once more beside them.
 #![tactic(auto)]
@@ -10,6 +10,8 @@
 mod files;
 #[cfg(test)]
 mod heads;
+#[cfg(test)]
+mod names;
 #[cfg(test)]
 mod reports;
 #[cfg(test)]

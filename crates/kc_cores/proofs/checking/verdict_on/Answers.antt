@@ -18,7 +18,7 @@ lent P g ids ids' claims claims' one two h =
 pub check_claims-requires-clause-named : goal.check_claims-requires-clause-named
 check_claims-requires-clause-named g c =
     ap length c.deref-2.ensures.value ∙ sym (size-graph_of _ _ c.in_ok-named.named.ids.items c.in_ok-named.named.graph c.in_ok-named.named.skipped
-    c.in_ok-named.ensures.graph)
+    c.in_ok-named.ensures.graph.graph)
 
 pub returns-in-Ok-clause-right : goal.returns-in-Ok-clause-right
 returns-in-Ok-clause-right g c = λ _. record {
@@ -26,7 +26,7 @@ returns-in-Ok-clause-right g c = λ _. record {
   g = c.in_ok-named.named.graph;
   claims = c.in_ok-claims.claims.items;
   skipped = c.in_ok-named.named.skipped;
-  graph = c.in_ok-named.ensures.graph;
+  graph = c.in_ok-named.ensures.graph.graph;
   claimed = c.in_ok-claims.ensures.claims;
   found = (
     lent AreCertificate c.in_ok-named.named.graph c.in_ok-named.named.ids.items c.deref-2.result.now c.in_ok-claims.claims.items c.deref-3.result.now
@@ -44,7 +44,7 @@ returns-in-Err-Faulty-clause-wrong g c =
       g = c.in_ok-named.named.graph;
       claims = c.in_ok-claims.claims.items;
       skipped = c.in_ok-named.named.skipped;
-      graph = c.in_ok-named.ensures.graph;
+      graph = c.in_ok-named.ensures.graph.graph;
       claimed = c.in_ok-claims.ensures.claims;
       found = lent (λ xs h cs. IsFirstFault xs h cs c.in-Err-Faulty.fault) c.in_ok-named.named.graph c.in_ok-named.named.ids.items c.deref-2.result.now
           c.in_ok-claims.claims.items c.deref-3.result.now c.deref-2.ensures.value c.deref-3.ensures.value (faulty c.in-Err-Faulty.fault refl);

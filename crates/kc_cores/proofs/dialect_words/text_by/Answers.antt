@@ -7,9 +7,10 @@ use Rattle.kc_cores.specs.Wishes.{dialect_by, text_with}
 use Rattle.kc_cores.proofs.dialect_words.text_by.Goals as goal
 
 -- the dialect of values that are the same
-dialect-same : {columns columns' separator separator' skip skip' bad bad' : Option Text} (file : Option Text) → columns ≡ columns' → separator ≡ separator'
-    → skip ≡ skip' → bad ≡ bad' → dialect_by columns separator skip bad file ≡ dialect_by columns' separator' skip' bad' file
-dialect-same file one two three four = λ i. dialect_by (one i) (two i) (three i) (four i) file
+dialect-same : {columns columns' separator separator' skip skip' bad bad' kind kind' : Option Text} (file : Option Text) → columns ≡ columns'
+    → separator ≡ separator' → skip ≡ skip' → bad ≡ bad' → kind ≡ kind'
+    → dialect_by columns separator skip bad kind file ≡ dialect_by columns' separator' skip' bad' kind' file
+dialect-same file one two three four five = λ i. dialect_by (one i) (two i) (three i) (four i) (five i) file
 
 pub returns : goal.returns
 returns c =
@@ -18,4 +19,4 @@ returns c =
     c.text_with.ensures ∙ ap (text_with file) (c.dialect_by.ensures
     ∙ dialect-same file (c.get_str-columns.ensures ∙ first_value-rows found (codes "columns"))
     (c.get_str-separator.ensures ∙ first_value-rows found (codes "separator")) (c.get_str-skip.ensures ∙ first_value-rows found (codes "skip"))
-    (c.get_str-bad_lines.ensures ∙ first_value-rows found (codes "bad-lines")))
+    (c.get_str-bad_lines.ensures ∙ first_value-rows found (codes "bad-lines")) (c.get_str-ids.ensures ∙ first_value-rows found (codes "ids")))

@@ -1,14 +1,14 @@
 -- The fields are the four counts with their names.
 use Rattle.std.proofs.Common.{◌≡◌, ◌∷◌, [], List, ℕ, subst}
 use Rattle.std.specs.Prelude.{OnErr, OnOk}
-use Rattle.kc_lines.specs.Fields.{NamedNumber}
+use Rattle.kc_lines.specs.Fields.{KeyedLabel}
 use Rattle.kc_lines.specs.Lines.{line_text}
 use Rattle.kc_lines.specs.Pages.{PassesOn, PassesPart}
 use Rattle.kc_lines.specs.declared.format.Format.{Format}
 use Rattle.kc_cores.proofs.lines.put_counts_line.Goals as goal
 
 -- the same four fields make the same line
-same_line : (format : Format) (a a' b b' d d' e e' : NamedNumber) → a ≡ a' → b ≡ b' → d ≡ d' → e ≡ e'
+same_line : (format : Format) (a a' b b' d d' e e' : KeyedLabel) → a ≡ a' → b ≡ b' → d ≡ d' → e ≡ e'
     → line_text format (a ∷ b ∷ d ∷ e ∷ []) ≡ line_text format (a' ∷ b' ∷ d' ∷ e' ∷ [])
 same_line format a a' b b' d d' e e' one two three four = λ i. line_text format (one i ∷ two i ∷ three i ∷ four i ∷ [])
 

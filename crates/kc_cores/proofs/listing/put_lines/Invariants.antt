@@ -9,6 +9,6 @@ use Rattle.kc_cores.proofs.listing.put_lines.Given as goal
 abbrev pub invariant-loop-place : goal.invariant-loop-place
 invariant-loop-place g l = record {
   passes : PassesOn (g.O.Sink.taken l.fn.out) (g.O.Sink.taken l.out) l.fn.page l.page
-      (flat_map (line_at l.format l.listing l.vertices.ids.now l.vertices.core.now) (ascending_below l.place));
+      (flat_map (line_at l.format l.listing l.vertices.labels.now l.vertices.core.now) (ascending_below l.place));
   faultless : g.O.Sink.faults l.out ≡ g.O.Sink.faults l.fn.out;
 }

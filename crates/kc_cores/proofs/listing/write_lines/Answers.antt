@@ -7,6 +7,6 @@ use Rattle.kc_cores.proofs.listing.write_lines.Goals as goal
 pub returns-clause-prefix : goal.returns-clause-prefix
 returns-clause-prefix g c =
     on_err_weaker c.write.result (λ part. part-passed _ _ _ c.args.page c.put_lines.new.page
-    (listing_lines c.args.format c.args.listing.now c.args.vertices.now.ids.now c.args.vertices.now.core.now) c.in_ok-put_lines.ensures.passes part
+    (listing_lines c.args.format c.args.listing.now c.args.vertices.now.labels.now c.args.vertices.now.core.now) c.in_ok-put_lines.ensures.passes part
     c.requires.empty)
     c.write.ensures.part

@@ -10,7 +10,7 @@ use Rattle.kc_cores.proofs.reading.plain_edges.Goals as goal
 pub returns-in-Ok-clause-edges : goal.returns-in-Ok-clause-edges
 returns-in-Ok-clause-edges g c = λ known looked.
     AreReadFrom-plain known (g.S.Source.left c.args.source.now) c.args.head.now _ looked c.in-Ok.ensures.edges
-    (record { few = omega (arith, c.in-Ok.ensures.few); edges = c.in-Ok.ensures.within }) (record { count = refl; first = c.new.ensures.items })
+    (record { few = omega (arith, c.in-Ok.ensures.few); edges = c.in-Ok.ensures.within }) (record { count = refl; first = c.new.ensures.items }) refl
 
 pub returns-in-Err-Refused-clause-stopped : goal.returns-in-Err-Refused-clause-stopped
 returns-in-Err-Refused-clause-stopped g c = λ known looked.
