@@ -1,5 +1,5 @@
 -- A run keeps what `answer` promises: where `clap` replies, where there is no graph, where its lines were written, and where a write failed.
-use Rattle.std.proofs.Common.{◌≡◌, ◌⊎◌, ◌≤◌, ◌∙◌, ◌++◌, ℕ, Bool, List, Option, Some, IfSome, ap, inl, inr, length, refl, subst, take}
+use Rattle.std.proofs.Common.{◌≡◌, ◌⊎◌, ◌≤◌, ◌∙◌, ◌++◌, ℕ, Bool, List, Option, Some, ap, inl, inr, length, refl, subst, take}
 use Rattle.std.proofs.KnownBytes.{Appends-nil}
 use Rattle.std.specs.Io.KnownBytes.{Appends, IsAtEnd}
 use Rattle.kc_io.specs.Causes.{Rose}
@@ -19,6 +19,7 @@ use Rattle.kc_cores.specs.Skips.{skipped_report, told_skips}
 use Rattle.kc_cores.specs.Wishes.{Asks, Query, Wish}
 use Rattle.kc_cores.specs.declared.CoresStatus.{CoresStatus}
 use Rattle.kc_cores.specs.declared.CoresStatus.TheVariants as status
+use Rattle.kc_cores.proofs.Looked.{of_known}
 
 -- words that ask for two queries ask for one
 pub asked-same : (q p : Query) → Asks q ≡ Asks p → q ≡ p
@@ -28,10 +29,6 @@ asked-same q p e = cc
 clash : (dialect : Option Dialect) (bytes : List ℕ) (told : Told) (n : ℕ) (kind : Kind) → graph_meaning dialect bytes ≡ Means told
     → graph_meaning dialect bytes ≡ Refuses n kind → ⊥
 clash dialect bytes told n kind means refuses = absurd (cc)
-
--- what is told of all bytes, where they are known, is told of these
-of_known : (P : List ℕ → Type 0) (known : Option (List ℕ)) (bytes : List ℕ) → known ≡ Some bytes → IfSome known P → P bytes
-of_known P known bytes is h = subst (λ (k : Option (List ℕ)). IfSome k P) is h
 
 -- bytes that have an answer are not refused
 answer-clash : (query : Query) (known : Option (List ℕ)) (text summary bytes : List ℕ) (n : ℕ) (kind : Kind)

@@ -14,7 +14,6 @@ use Rattle.kc_head.proofs.Fronts.{head-cut, mark-cut}
 use Rattle.kc_read.specs.Reading.{AreEdgesWithin}
 use Rattle.kc_text.specs.Meaning.{Means, Refuses, meaning}
 use Rattle.kc_text.specs.declared.limits.TheConstants.Limits.{GRAPH}
-use Rattle.kc_text.specs.declared.refusal.Refusal.{Refusal}
 use Rattle.kc_cores.specs.Answers.{IsRefusedBy}
 use Rattle.kc_cores.specs.Inputs.{AreReadFrom, HasFewIds, IsLookedAt, text_bytes}
 use Rattle.kc_cores.proofs.Graphs.{graph_meaning-in, graph_meaning-is}
@@ -35,9 +34,9 @@ IsLookedAt-put_back dialect (Some all) between after head text h is put = (
       ∙ ap (λ (t : List ℕ). Some t) (text_bytes-cut dialect all),
 )
 
--- what is known of the rest of an input is known of what is read of its bytes
-of_text : (P : List ℕ → Type 0) (left : Option (List ℕ)) (text : List ℕ) → left ≡ Some text → IfSome left P → P text
-of_text P left text is h = subst (λ (l : Option (List ℕ)). IfSome l P) is h
+-- what is told of all bytes, where they are known, is told of these
+pub of_known : (P : List ℕ → Type 0) (known : Option (List ℕ)) (bytes : List ℕ) → known ≡ Some bytes → IfSome known P → P bytes
+of_known P known bytes is h = subst (λ (k : Option (List ℕ)). IfSome k P) is h
 
 -- a mark, and then some bytes
 marked : List ℕ → List ℕ
@@ -58,7 +57,7 @@ AreReadFrom-plain None left head found looked r fit skipped called = record {
   called = called;
 }
 AreReadFrom-plain (Some all) left head found looked r fit skipped called =
-    let same : r.bytes ≡ without_mark all = of_text (λ (t : List ℕ). r.bytes ≡ t) left (without_mark all) looked.1 r.read in record {
+    let same : r.bytes ≡ without_mark all = of_known (λ (t : List ℕ). r.bytes ≡ t) left (without_mark all) looked.1 r.read in record {
       bytes = all;
       read = refl;
       told = r.told;
@@ -85,7 +84,7 @@ AreReadFrom-in dialect known left head found looked r fit = record {
   where
     told : (known : Option (List ℕ)) → IsLookedAt (Some dialect) known left head → IfSome known (λ all. r.bytes ≡ all)
     told None looked = tt
-    told (Some all) looked = of_text (λ (t : List ℕ). r.bytes ≡ t) left all looked.1 r.read
+    told (Some all) looked = of_known (λ (t : List ℕ). r.bytes ≡ t) left all looked.1 r.read
 
 -- what is refused as it is, behind a mark, is refused as the text of a graph
 pub graph_refused : (placed : PlacedRefusal) (known left : Option (List ℕ)) (head : List ℕ) → IsLookedAt None known left head
@@ -94,7 +93,7 @@ pub graph_refused : (placed : PlacedRefusal) (known left : Option (List ℕ)) (h
 graph_refused placed None left head looked h column = tt
 graph_refused placed (Some all) left head looked h column = (
   graph_meaning-is all (Refuses placed.refusal.line placed.refusal.kind)
-      (of_text (λ (t : List ℕ). meaning GRAPH t ≡ Refuses placed.refusal.line placed.refusal.kind) left (without_mark all) looked.1 h),
+      (of_known (λ (t : List ℕ). meaning GRAPH t ≡ Refuses placed.refusal.line placed.refusal.kind) left (without_mark all) looked.1 h),
   column ∙ ap (λ (t : List ℕ). wrong_column t placed.refusal) looked.0,
   looked.0,
 )
@@ -105,5 +104,5 @@ pub graph_refused-in : (dialect : Dialect) (placed : PlacedRefusal) (known left 
     → IfSome known (λ bytes. IsRefusedBy (Some dialect) bytes (record { placed = placed; head = head }))
 graph_refused-in dialect placed None left head looked h = tt
 graph_refused-in dialect placed (Some all) left head looked h =
-    let here = of_text (λ (t : List ℕ). IsRefusedAt dialect t placed) left all looked.1 h in
+    let here = of_known (λ (t : List ℕ). IsRefusedAt dialect t placed) left all looked.1 h in
     (graph_meaning-in dialect all (Refuses placed.refusal.line placed.refusal.kind) here.0, here.1, looked.0)

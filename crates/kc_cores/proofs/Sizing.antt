@@ -1,16 +1,13 @@
 -- Counts of numbers are counts of vertices and of edges.
-use Rattle.std.proofs.Common.{◌≡◌, ◌<◌, ◌≤◌, ◌+◌, ◌++◌, ◌∙◌, ◌&&◌, ℕ, zero, suc, Bool, true, false, cond, List, [], ◌∷◌, length, take, map}
-use Rattle.std.proofs.Common.{ap, ap₂, sym, refl, arith, get_or, leb, eqb, min, max, count_by}
-use Rattle.std.specs.List.{filter, fold}
-use Rattle.std.specs.Prelude.{All}
+use Rattle.std.proofs.Common.{◌≡◌, ◌≤◌, ◌+◌, ◌++◌, ◌∙◌, ◌&&◌, ℕ, zero, suc, Bool, true, false, cond, List, [], ◌∷◌, length, take, map}
+use Rattle.std.proofs.Common.{ap, ap₂, sym, refl, arith, get_or, leb, eqb, min, count_by}
+use Rattle.std.specs.List.{filter}
 use Rattle.std.proofs.lemmas.Bool.{le-leb}
 use Rattle.std.proofs.lemmas.Bool.Decides.{nat_tests}
-use Rattle.std.proofs.lemmas.List.Elements.{All-cons, All-nil}
 use Rattle.std.proofs.lemmas.List.Sums.{length-filter}
 use Rattle.std.proofs.Math.Seq.{take-length, take-suc}
 use Rattle.kc_flat.specs.Listing.{ascending_below, edge_list}
 use Rattle.kc_flat.proofs.Listed.{ascending-suc}
-use Rattle.kc_graph.specs.Core.{greatest}
 use Rattle.kc_graph.specs.Peeling.{at}
 use Rattle.kc_graph.specs.SimpleGraph.{SimpleGraph}
 use Rattle.kc_lists.specs.Lists.{times}
@@ -75,18 +72,3 @@ count-lesser core k (e ∷ es) =
 -- the same of all edges of a graph
 pub count-edges : (g : SimpleGraph) (core : List ℕ) (k : ℕ) → count_by (leb k) (map (lesser_number core) (edge_list g)) ≡ length (core_edges g core k)
 count-edges g core k = count-lesser core k (edge_list g)
-
--- the greatest of numbers and one more is no less than this one
-fold-above : (a : ℕ) (xs : List ℕ) → a ≤ fold (λ n c. max n c) a xs
-fold-above a [] = omega arith
-fold-above a (x ∷ xs) = omega (arith, fold-above (max a x) xs)
-
--- and no less than any of the numbers
-fold-each : (a : ℕ) (xs : List ℕ) → All (λ n. n ≤ fold (λ m c. max m c) a xs) xs
-fold-each a [] = All-nil (λ n. n ≤ a)
-fold-each a (x ∷ xs) =
-    All-cons (λ n. n ≤ fold (λ m c. max m c) (max a x) xs) x xs (omega (arith, fold-above (max a x) xs)) (fold-each (max a x) xs)
-
--- each number is at most the greatest
-pub below-levels : (xs : List ℕ) (levels : ℕ) → levels ≡ greatest xs + 1 → All (λ n. n < levels) xs
-below-levels xs levels is = λ k d l. omega (arith, fold-each 0 xs k d l, is)

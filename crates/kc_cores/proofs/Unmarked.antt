@@ -1,26 +1,19 @@
 -- A text that means a graph has no byte order mark in front.
-use Rattle.std.proofs.Common.{◌≡◌, ◌∙◌, ◌+◌, ◌-◌, ℕ, suc, Bool, List, [], ◌∷◌, length, map, take, drop, refl, sym, ap, subst, arith, inl, inr, cond}
+use Rattle.std.proofs.Common.{◌≡◌, ◌∙◌, ◌-◌, ℕ, suc, Bool, List, [], ◌∷◌, length, map, take, drop, refl, sym, ap, subst, arith, inl, inr, cond}
 use Rattle.std.proofs.Common.{◌&&◌, ◌==◌, eqb-true, lt-ltb, nat_lt}
 use Rattle.std.specs.Prelude.{slice_index}
-use Rattle.std.specs.List.{onto_first, position_or_len, slice_split}
+use Rattle.std.specs.List.{onto_first, slice_split}
 use Rattle.std.specs.Str.Lines.{strip_carriage_return}
 use Rattle.std.proofs.lemmas.Bool.{cases_Bool, and_parts}
 use Rattle.kc_text.specs.declared.kind.Kind.TheVariants.{NotANumber, TooLong}
 use Rattle.kc_text.specs.declared.limits.TheConstants.Limits.{GRAPH}
 use Rattle.kc_text.specs.declared.line.TextLine.{TextLine}
 use Rattle.kc_text.specs.declared.line.TextLine.TheVariants.{Wrong}
-use Rattle.kc_text.specs.Forms.{all_said, line_of, said_by}
-use Rattle.kc_text.specs.Lines.{fields, is_blank, is_newline, lines, without_last}
-use Rattle.kc_text.specs.Meaning.{Meaning, Means, Refuses, Told, meaning, nothing_told, reading}
-use Rattle.kc_text.proofs.FieldCuts.{fields-first}
+use Rattle.kc_text.specs.Forms.{all_said, said_by}
+use Rattle.kc_text.specs.Lines.{is_newline, lines, without_last}
+use Rattle.kc_text.specs.Meaning.{Means, Refuses, Told, meaning, nothing_told, reading}
 use Rattle.kc_dialect.specs.Dialects.{without_mark}
-
--- a line that begins with the first byte of a mark is wrong
-wrong-line : (bytes : List ℕ) → said_by (239 ∷ bytes) ≡ Wrong NotANumber
-wrong-line bytes =
-    let xs : List ℕ = 239 ∷ bytes in
-    let n : position_or_len is_blank xs ≡ suc (position_or_len is_blank bytes) = omega arith in
-    ap line_of (fields-first 239 bytes refl ∙ ap (λ k. take k xs ∷ fields (drop k xs)) n)
+use Rattle.kc_dialect.proofs.PlainDialect.{marked-wrong}
 
 -- a carriage return that goes leaves the first byte
 strip-front : (line : List ℕ) → (rest : List ℕ) × (strip_carriage_return (239 ∷ line) ≡ 239 ∷ rest)
@@ -57,7 +50,7 @@ refuses : (bytes : List ℕ) (told : Told) → meaning GRAPH (239 ∷ bytes) ≡
 refuses bytes told e =
     let (line, more, is) = first-line (slice_split is_newline bytes) in
     let said : all_said (239 ∷ bytes) ≡ Wrong NotANumber ∷ map said_by more =
-    ap (λ ls. map said_by ls) is ∙ ap (λ t. t ∷ map said_by more) (wrong-line line) in
+    ap (λ ls. map said_by ls) is ∙ ap (λ t. t ∷ map said_by more) (marked-wrong line) in
     elim (cases_Bool (nat_lt GRAPH.bytes (length (239 ∷ bytes)))) [
       | inl long ↦ long-refused told (sym (ap (λ b. cond b (Refuses 0 TooLong) (reading GRAPH 0 nothing_told (all_said (239 ∷ bytes)))) long) ∙ e)
       | inr fits ↦

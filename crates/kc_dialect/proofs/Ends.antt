@@ -1,5 +1,5 @@
 -- What is written ends with a line.
-use Rattle.std.proofs.Common.{◌≡◌, ◌+◌, ◌++◌, ℕ, List, [], ◌∷◌, append_assoc, inl, inr, refl, subst, sym}
+use Rattle.std.proofs.Common.{◌+◌, ◌++◌, ℕ, List, [], ◌∷◌, append_assoc, inl, inr, refl, subst, sym}
 use Rattle.std.proofs.Common.{Option, None, Some, Result, Ok, Err}
 use Rattle.kc_text.specs.Lines.{EndsLine, lines}
 use Rattle.kc_text.proofs.SaidAppend.{ends-append}

@@ -1,10 +1,9 @@
 -- The lines of bytes that are cut behind a line end.
-use Rattle.std.proofs.Common.{◌≡◌, ◌+◌, ℕ, List, [], ◌∷◌, ◌++◌, length, map, refl, sym, ap, ◌∙◌, arith, inl, inr, cond, true, false}
+use Rattle.std.proofs.Common.{◌≡◌, ◌+◌, ℕ, List, [], ◌∷◌, ◌++◌, length, map, sym, ap, ◌∙◌, arith, inl, inr}
 use Rattle.std.proofs.Common.{append_assoc, append-nil}
-use Rattle.std.specs.List.{slice_split, onto_first}
+use Rattle.std.specs.List.{slice_split}
 use Rattle.std.specs.Str.Lines.{strip_carriage_return}
-use Rattle.std.proofs.lemmas.List.{map-append}
-use Rattle.kc_text.specs.Lines.{EndsLine, is_newline, lines, without_last}
+use Rattle.kc_text.specs.Lines.{EndsLine, is_newline, lines}
 use Rattle.kc_text.proofs.SaidAppend.{lines-newline}
 use Rattle.kc_dialect.specs.declared.bad_line.BadLine.{BadLine}
 use Rattle.kc_dialect.specs.declared.dialect.Dialect.{Dialect}

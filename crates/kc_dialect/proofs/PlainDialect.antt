@@ -89,7 +89,7 @@ lines-of-graph limits n t (line ∷ rest) told e none =
     (first-of-graph limits n t line rest told fine more e none, lines-of-graph limits (n + 1) (with_line t line) rest told more none)
 
 -- a line that begins with the first byte of a mark is wrong
-marked-wrong : (bytes : List ℕ) → said_by (239 ∷ bytes) ≡ Wrong NotANumber
+pub marked-wrong : (bytes : List ℕ) → said_by (239 ∷ bytes) ≡ Wrong NotANumber
 marked-wrong bytes =
     let xs : List ℕ = 239 ∷ bytes in
     let n : position_or_len is_blank xs ≡ suc (position_or_len is_blank bytes) = omega arith in

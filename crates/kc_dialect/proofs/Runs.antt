@@ -24,8 +24,8 @@ use Rattle.kc_dialect.specs.declared.dialect.Ids.{Ids}
 use Rattle.kc_dialect.specs.declared.dialect.Ids.TheVariants.{Numbers}
 use Rattle.kc_dialect.specs.declared.dialect.Separator.{Separator}
 use Rattle.kc_dialect.specs.declared.dialect.Separator.TheVariants.{Blank, Comma, Semicolon, Tab}
-use Rattle.kc_dialect.specs.Columns.{field_of, fields_from, fields_in, id_in_column, is_field, is_quote, is_separator, number_in_column, parts, quoted_behind, trimmed}
-use Rattle.kc_dialect.specs.Columns.{is_in_quotes, unquoted, without_back_blanks}
+use Rattle.kc_dialect.specs.Columns.{field_of, fields_from, fields_in, id_in_column, is_field, is_quote, is_separator, number_in_column, parts, quoted_behind}
+use Rattle.kc_dialect.specs.Columns.{is_in_quotes, trimmed, unquoted, without_back_blanks}
 use Rattle.kc_dialect.specs.Dialects.{bad_line, bad_lines_after, both, pair_in, plain_line, plain_lines, said_after, says_nothing, without_mark}
 use Rattle.kc_dialect.specs.PlainRuns.{AreFewDigits, BeginsPlainly, BeginsWithRun, spaced}
 use Rattle.kc_dialect.proofs.Cells.{field-first}
@@ -205,8 +205,9 @@ plain-says [] part second a = absurd (omega (arith, a.some))
 plain-says (b ∷ ds) part second a = says-something b (ds ++ part ∷ second) (first-code b ds a.each).0
 
 -- a plain line says its two numbers in each dialect of the first two columns, behind the lines that are skipped
-said-plain : (d : Dialect) (s : Separator) (n : ℕ) (first : List ℕ) (part : ℕ) (second : List ℕ) → d.separator ≡ s → d.columns ≡ (1, 2) → d.ids ≡ Numbers → d.skip ≤ n
-    → is_separator s part ≡ true → AreFewDigits first → AreFewDigits second → said_after d n (first ++ part ∷ second) ≡ Ok (Some (first, second))
+said-plain : (d : Dialect) (s : Separator) (n : ℕ) (first : List ℕ) (part : ℕ) (second : List ℕ) → d.separator ≡ s → d.columns ≡ (1, 2)
+    → d.ids ≡ Numbers → d.skip ≤ n → is_separator s part ≡ true → AreFewDigits first → AreFewDigits second
+    → said_after d n (first ++ part ∷ second) ≡ Ok (Some (first, second))
 said-plain d s n first part second e columns ids skip h a b =
     let line : List ℕ = first ++ part ∷ second in
     let bytes : List ℕ = cond (n == 0) (without_mark line) line in
@@ -217,10 +218,12 @@ said-plain d s n first part second e columns ids skip h a b =
     ] in
     let at : map (λ (f : ℕ × List ℕ). f.1) (fields_in s line) ≡ first ∷ second ∷ [] = fields-two s first part second h a b in
     let one : id_in_column d.ids d.separator d.columns.0 line ≡ Ok first =
-    ap (λ (t : Ids). id_in_column t d.separator d.columns.0 line) ids ∙ ap (λ (t : Separator). number_in_column t d.columns.0 line) e ∙ ap (λ (c : ℕ × ℕ). number_in_column s c.0 line) columns
+    ap (λ (t : Ids). id_in_column t d.separator d.columns.0 line) ids ∙ ap (λ (t : Separator). number_in_column t d.columns.0 line) e
+    ∙ ap (λ (c : ℕ × ℕ). number_in_column s c.0 line) columns
     ∙ first-column (length line) (fields_in s line) first (second ∷ []) (value first) at (few-spell first a) in
     let two : id_in_column d.ids d.separator d.columns.1 line ≡ Ok second =
-    ap (λ (t : Ids). id_in_column t d.separator d.columns.1 line) ids ∙ ap (λ (t : Separator). number_in_column t d.columns.1 line) e ∙ ap (λ (c : ℕ × ℕ). number_in_column s c.1 line) columns
+    ap (λ (t : Ids). id_in_column t d.separator d.columns.1 line) ids ∙ ap (λ (t : Separator). number_in_column t d.columns.1 line) e
+    ∙ ap (λ (c : ℕ × ℕ). number_in_column s c.1 line) columns
     ∙ second-column (length line) (fields_in s line) first second [] (value second) at (few-spell second b) in
     let numbers : Result (Option (List ℕ × List ℕ)) BadField =
     both (id_in_column d.ids d.separator d.columns.0 line) (id_in_column d.ids d.separator d.columns.1 line) in

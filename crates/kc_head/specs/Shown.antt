@@ -1,17 +1,14 @@
 -- How a line is shown, with a caret under a column of it.
-use Rattle.std.specs.Prelude.{◌+◌, ◌-◌, ◌==◌, ◌/◌, ◌%◌, ◌&&◌, ◌++◌, ℕ, Bool, List, [], ◌∷◌, Option, Some, None, codes, drop, length, nat_le, nat_lt, take}
+use Rattle.std.specs.Prelude.{◌-◌, ◌==◌, ◌/◌, ◌%◌, ◌&&◌, ◌++◌, ℕ, Bool, List, [], ◌∷◌, Option, Some, None, codes, drop, length, nat_le, nat_lt, take}
 use Rattle.std.specs.Prelude.{if◌then◌else◌}
 use Rattle.std.specs.List.{flat_map}
+use Rattle.kc_lines.specs.Hex.{hex_digit}
 use Rattle.kc_head.specs.Places.{line_in}
 use Rattle.kc_head.specs.declared.shown.TheConstants.{MOST_BEFORE, MOST_SHOWN}
 
 -- a byte that is shown as it is: a letter, a digit or the like, or a space
 abbrev pub is_plain : ℕ → Bool
 is_plain b = nat_le 32 b && nat_le b 126
-
--- a digit of base 16
-abbrev pub hex_digit : ℕ → ℕ
-hex_digit n = if nat_lt n 10 then 48 + n else 87 + n
 
 -- a byte that can not be shown: a tab as `\t`, and any other as `\x1f`
 abbrev pub escaped : ℕ → List ℕ

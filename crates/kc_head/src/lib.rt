@@ -5,7 +5,7 @@
 //! that stands in the head, and [`show_place`] writes the line with a caret under a column. So whoever reads a text piece by piece can say
 //! where it is wrong, and holds no more of it than its head.
 //!
-//! The crate stands on `kc_io`, `kc_text` and `kc_dialect`.
+//! The crate stands on `kc_io`, `kc_lines`, `kc_text` and `kc_dialect`.
 #![tactic(auto)]
 
 mod foreign;

@@ -1,9 +1,10 @@
 //! Shows a line with a caret under a column of it.
-ghost use Rattle.std.specs.Prelude.{◌≡◌, ◌≤◌, ◌<◌, ◌++◌, OnOk, drop, length, take};
+ghost use Rattle.std.specs.Prelude.{◌≡◌, ◌≤◌, ◌++◌, OnOk, drop, length, take};
 ghost use Rattle.std.specs.List.{flat_map};
-ghost use Rattle.kc_head.specs.Shown.{escaped, hex_digit, is_plain, shown_byte, shown_line, shown_place, spaces_for, with_caret};
+ghost use Rattle.kc_head.specs.Shown.{escaped, is_plain, shown_byte, shown_line, shown_place, spaces_for, with_caret};
 
 use crate::places::line_in;
+use kc_lines::hex::hex_digit;
 use kc_text::NoMemory;
 
 /// The most bytes of a line that are shown.
@@ -19,13 +20,6 @@ fn is_plain(b: u8) -> bool
     ensures { result ≡ is_plain b }
 {
     b' ' <= b && b <= b'~'
-}
-
-fn hex_digit(n: u8) -> u8
-    requires { n < 16 }
-    ensures { result ≡ hex_digit n }
-{
-    if n < 10 { b'0' + n } else { b'a' - 10 + n }
 }
 
 /// Writes a byte that can't be shown as it is.

@@ -1,6 +1,7 @@
 -- Strings of JSON (RFC 8259): which bytes are escaped, and how. A byte above 127 stands as it is.
-use Rattle.std.specs.Prelude.{◌==◌, ◌++◌, ◌+◌, ◌/◌, ◌%◌, ℕ, List, [], ◌∷◌, Option, None, Some, codes, nat_lt, if◌then◌else◌}
+use Rattle.std.specs.Prelude.{◌==◌, ◌++◌, ◌/◌, ◌%◌, ℕ, List, [], ◌∷◌, Option, None, Some, codes, nat_lt, if◌then◌else◌}
 use Rattle.std.specs.List.{flat_map}
+use Rattle.kc_lines.specs.Hex.{hex_digit}
 
 -- what stands behind the backslash for a byte that has a short escape: itself for a quote and a backslash, and `b`, `t`, `n`, `f` or `r`
 abbrev pub short_escape : ℕ → Option ℕ
@@ -13,10 +14,6 @@ short_escape b =
     else if b == 12 then Some 102
     else if b == 13 then Some 114
     else None
-
--- a digit of base 16
-abbrev pub hex_digit : ℕ → ℕ
-hex_digit n = if nat_lt n 10 then 48 + n else 87 + n
 
 -- a byte without a short escape: a control character as `\u001f`, and any other as it is
 abbrev pub long_escape : ℕ → List ℕ

@@ -1,5 +1,6 @@
 -- What public contracts speak of.
 pub mod Fields
+pub mod Hex
 pub mod Json
 pub mod Lines
 pub mod Pages

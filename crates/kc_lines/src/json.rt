@@ -1,10 +1,11 @@
 //! Strings of JSON that are put behind a page, byte for byte.
-ghost use Rattle.std.specs.Prelude.{◌≡◌, ◌++◌, ◌<◌, OnErr, OnOk, codes};
+ghost use Rattle.std.specs.Prelude.{◌≡◌, ◌++◌, OnErr, OnOk, codes};
 ghost use Rattle.std.specs.List.{flat_map};
 ghost use Rattle.kc_io.specs.Causes.{HasCause};
-ghost use Rattle.kc_lines.specs.Json.{hex_digit, json_byte, json_string, long_escape, short_escape};
+ghost use Rattle.kc_lines.specs.Json.{json_byte, json_string, long_escape, short_escape};
 ghost use Rattle.kc_lines.specs.Pages.{PassesOn, PassesPart};
 
+use crate::hex::hex_digit;
 use crate::page::Page;
 use kc_io::Failed;
 use kc_io::sink::Sink;
@@ -22,14 +23,6 @@ fn short_escape(b: u8) -> Option<u8>
         b'\r' => Some(b'r'),
         _ => None,
     }
-}
-
-/// A digit of base 16.
-fn hex_digit(n: u8) -> u8
-    requires { n < 16 }
-    ensures { result ≡ hex_digit n }
-{
-    if n < 10 { b'0' + n } else { b'a' - 10 + n }
 }
 
 /// Puts a byte without a short escape.

@@ -5,12 +5,13 @@
 //! [`Page`](page::Page), which gathers bytes and writes them in pieces. No call after `Page::new` takes memory.
 //!
 //! Promised: what was taken by the sink and what is on the page are together just what was put, in order; where a write failed, what was
-//! taken is a prefix of it (`specs/Pages.antt`). `specs/Lines.antt` says what the bytes of a line are. The crate stands on `kc_io`, and on
-//! `itoa` for digits.
+//! taken is a prefix of it (`specs/Pages.antt`). `specs/Lines.antt` says what the bytes of a line are. [`hex_digit`](hex::hex_digit) gives a
+//! digit of base 16. The crate stands on `kc_io`, and on `itoa` for decimal digits.
 #![tactic(auto)]
 
 pub mod field;
 pub mod format;
+pub mod hex;
 mod json;
 pub mod lines;
 pub mod page;

@@ -1,5 +1,5 @@
 -- A reader of ids was fed a piece more.
-use Rattle.std.proofs.Common.{◌≡◌, ◌++◌, ◌∙◌, ℕ, List, [], Option, None, Some, ap, subst, sym}
+use Rattle.std.proofs.Common.{◌≡◌, ◌++◌, ◌∙◌, ℕ, List, Option, None, Some, ap, subst, sym}
 use Rattle.kc_dialect.specs.declared.dialect.Ids.{Ids}
 use Rattle.kc_dialect.specs.declared.dialect.Ids.TheVariants.{Numbers, Names}
 use Rattle.kc_text.specs.Feeding.{WasFed}

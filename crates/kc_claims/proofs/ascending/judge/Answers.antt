@@ -30,7 +30,8 @@ fault_by_counts-requires-clause-vertices c = λ i l.
 pub returns-in_default-clause-certified : goal.returns-in_default-clause-certified
 returns-in_default-clause-certified c = λ known h none.
     certified-ascending c.args.claims.now c.args.order.now c.args.insisting.now known h c.in_default.is c.deref.result.now c.deref-in_default.result.now
-    c.deref.ensures.value c.deref-in_default.ensures.value (c.fault_by_counts.ensures.agree (ap is_none none)) (c.fault_by_counts.ensures.counted (ap is_none none))
+    c.deref.ensures.value c.deref-in_default.ensures.value (c.fault_by_counts.ensures.agree (ap is_none none))
+    (c.fault_by_counts.ensures.counted (ap is_none none))
 
 pub returns-in_default-clause-faulty : goal.returns-in_default-clause-faulty
 returns-in_default-clause-faulty c = λ known h.

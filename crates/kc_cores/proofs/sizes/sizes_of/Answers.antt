@@ -1,14 +1,15 @@
 -- Counts of numbers are counts of vertices and of edges.
 use Rattle.std.proofs.Common.{◌≡◌, ◌+◌, ◌∙◌, ap, arith, eqb, leb, length}
 use Rattle.kc_graph.specs.Core.{greatest}
-use Rattle.kc_cores.proofs.Sizing.{below-levels, count-edges, count-vertices}
+use Rattle.kc_answers.proofs.Levels.{below-next}
+use Rattle.kc_cores.proofs.Sizing.{count-edges, count-vertices}
 use Rattle.kc_cores.proofs.sizes.sizes_of.Goals as goal
 
 pub edges_at_least-requires-clause-within : goal.edges_at_least-requires-clause-within
-edges_at_least-requires-clause-within c = below-levels c.args.core.now (c.greatest.result + 1) (omega (arith, c.greatest.ensures))
+edges_at_least-requires-clause-within c = below-next c.args.core.now (c.greatest.result + 1) (omega (arith, c.greatest.ensures))
 
 pub counts_of-requires : goal.counts_of-requires
-counts_of-requires c = below-levels c.args.core.now (c.greatest.result + 1) (omega (arith, c.greatest.ensures))
+counts_of-requires c = below-next c.args.core.now (c.greatest.result + 1) (omega (arith, c.greatest.ensures))
 
 pub returns : goal.returns
 returns c =

@@ -10,4 +10,5 @@ returns-clause-app c =
     IfOk-weaker c.arg-2.result _ _
     (λ made h. h.shape c.edges_rule.ensures.local
     ∙ ap₂ with_rule (c.in_ok-arg.ensures.shape c.ids_option.ensures.local
-    ∙ ap₂ with_rule (c.in_ok-command.ensures.app ∙ ap with_dialect c.in_ok-writing_command.ensures.app) c.ids_option.ensures.rule) c.edges_rule.ensures.rule) c.arg-2.ensures
+    ∙ ap₂ with_rule (c.in_ok-command.ensures.app ∙ ap with_dialect c.in_ok-writing_command.ensures.app) c.ids_option.ensures.rule) c.edges_rule.ensures.rule)
+    c.arg-2.ensures

@@ -1,5 +1,5 @@
 -- A byte goes on behind those before it.
-use Rattle.std.proofs.Common.{◌≡◌, ◌∙◌, ℕ, List, ap, arith, drop, get_or, suc, subst, sym, take, take_all}
+use Rattle.std.proofs.Common.{◌≡◌, ◌∙◌, ℕ, ap, arith, drop, get_or, suc, subst, sym, take, take_all}
 use Rattle.std.proofs.lemmas.List.{get_or_default}
 use Rattle.std.specs.List.{flat_map}
 use Rattle.kc_lists.proofs.Results.{on_err-anyhow}

@@ -9,12 +9,14 @@ use Rattle.kc_lines.proofs.json.put_string.Goals as goal
 
 pub returns-in_err-put-clause-part : goal.returns-in_err-put-clause-part
 returns-in_err-put-clause-part g c =
-    on_err-anyhow c.from_residual.result (PassesPart-wider _ _ c.args.page.now (34 ∷ []) (flat_map json_byte c.args.bytes.now ++ codes "\"") c.in_err-put.ensures.part)
+    on_err-anyhow c.from_residual.result
+    (PassesPart-wider _ _ c.args.page.now (34 ∷ []) (flat_map json_byte c.args.bytes.now ++ codes "\"") c.in_err-put.ensures.part)
 
 pub returns-clause-passes : goal.returns-clause-passes
 returns-clause-passes g c =
     on_ok_weaker c.put_string_end.result (λ last.
-    PassesOn-trans _ _ _ c.args.page.now c.put.new.self c.put_string_end.new.page (34 ∷ []) (flat_map json_byte c.args.bytes.now ++ codes "\"") c.in_ok-put.ensures.passes last)
+    PassesOn-trans _ _ _ c.args.page.now c.put.new.self c.put_string_end.new.page (34 ∷ []) (flat_map json_byte c.args.bytes.now ++ codes "\"")
+    c.in_ok-put.ensures.passes last)
     c.put_string_end.ensures.passes
 
 pub returns-clause-part : goal.returns-clause-part

@@ -14,7 +14,8 @@ returns-in_err-put_bytes-clause-part g c =
 pub returns-clause-passes : goal.returns-clause-passes
 returns-clause-passes g c =
     on_ok_weaker c.put.result (λ last.
-    PassesOn-trans _ _ _ c.args.page.now c.put_bytes.new.page c.put.new.self (flat_map json_byte c.args.bytes.now) (34 ∷ []) c.in_ok-put_bytes.ensures.passes last)
+    PassesOn-trans _ _ _ c.args.page.now c.put_bytes.new.page c.put.new.self (flat_map json_byte c.args.bytes.now) (34 ∷ [])
+    c.in_ok-put_bytes.ensures.passes last)
     c.put.ensures.passes
 
 pub returns-clause-part : goal.returns-clause-part

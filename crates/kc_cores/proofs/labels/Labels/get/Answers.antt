@@ -1,5 +1,5 @@
 -- What is written for a vertex is the label of its id.
-use Rattle.std.proofs.Common.{◌≡◌, ◌<◌, ◌∙◌, ℕ, List, None, Option, Some, ap, arith, get_or, length, subst, sym}
+use Rattle.std.proofs.Common.{◌≡◌, ◌<◌, ◌∙◌, ℕ, List, Option, ap, arith, get_or, length, subst, sym}
 use Rattle.kc_lines.specs.Fields.{Label, Name, Number}
 use Rattle.kc_lists.proofs.Shared.{get_or-any}
 use Rattle.kc_cores.specs.Answers.{label_at, label_in, labels_of}

@@ -14,7 +14,8 @@ returns c =
     record {
       read = (
         run.read,
-        took-run old _ before c.write_spaced.new.out.items bytes c.plain_run-len.result.0 c.plain_run-len.result.1 run c.requires.columns c.requires.ids c.requires.skip
+        took-run old _ before c.write_spaced.new.out.items bytes c.plain_run-len.result.0 c.plain_run-len.result.1 run
+            c.requires.columns c.requires.ids c.requires.skip
             (c.in_ok-write_spaced.ensures ∙ ap (λ (t : List ℕ). before ++ map (spaced old.dialect.separator) t) c.split_at.ensures.front) refl refl refl,
         ap (λ (t : List ℕ). run.read ++ lines t) c.split_at.ensures.back ∙ sym run.cut,
       );

@@ -5,7 +5,6 @@ use Rattle.kc_dialect.specs.Rewritten.{HasFirstBad}
 use Rattle.kc_dialect.specs.declared.dialect.Dialect.{Dialect}
 use Rattle.kc_dialect.proofs.Ends.{written-ends}
 use Rattle.kc_names.specs.Reading.{WasFedIds}
-use Rattle.kc_text.specs.Lines.{EndsLine}
 use Rattle.kc_dialect_read.proofs.Feeds.{Rewrites-more}
 use Rattle.kc_dialect_read.proofs.plain_reader.PlainReader.feed.Goals as goal
 

@@ -1,5 +1,5 @@
 -- The piece was read as it is, or as the lines of the numbers of its names.
-use Rattle.std.proofs.Common.{◌≡◌, ◌++◌, ◌∙◌, ℕ, List, ap, refl}
+use Rattle.std.proofs.Common.{◌++◌, ◌∙◌, ℕ, List, ap, refl}
 use Rattle.std.proofs.lemmas.Result.{on_ok_weaker}
 use Rattle.kc_names.specs.Names.{pairs_in}
 use Rattle.kc_names.specs.Steps.{lines_behind}

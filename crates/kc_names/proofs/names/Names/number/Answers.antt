@@ -1,5 +1,5 @@
 -- The table finds a name at its place, or puts it behind the others.
-use Rattle.std.proofs.Common.{◌≡◌, ◌∙◌, ℕ, List, ap, map, sym}
+use Rattle.std.proofs.Common.{◌∙◌, ℕ, List, ap, map, sym}
 use Rattle.std.specs.Str.{bytes_eq}
 use Rattle.kc_names.specs.Names.{names_with, number_of}
 use Rattle.kc_names.proofs.Tables.{found, place-seen, put, seen}

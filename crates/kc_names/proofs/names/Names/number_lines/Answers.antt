@@ -1,5 +1,5 @@
 -- A line more is numbered, and the rest goes on from its names.
-use Rattle.std.proofs.Common.{◌≡◌, ◌++◌, ◌∙◌, [], ◌∷◌, ℕ, List, Option, ap, append_assoc, append-nil, map, sym}
+use Rattle.std.proofs.Common.{◌≡◌, ◌++◌, ◌∙◌, ◌∷◌, ℕ, List, Option, ap, append_assoc, map, sym}
 use Rattle.kc_text.specs.Lines.{fields}
 use Rattle.kc_names.specs.Names.{first_two, numbered_line, pairs_in}
 use Rattle.kc_names.specs.Steps.{lines_behind, names_behind}

@@ -1,5 +1,5 @@
 -- Both numbers are those among the names with the pair.
-use Rattle.std.proofs.Common.{◌≡◌, ◌++◌, ◌∙◌, [], ◌∷◌, ℕ, List, ap, decimal, sym}
+use Rattle.std.proofs.Common.{◌++◌, ◌∙◌, [], ◌∷◌, ℕ, List, ap, decimal, sym}
 use Rattle.kc_names.specs.Names.{names_with, number_of}
 use Rattle.kc_names.proofs.Coming.{first-number, number-put}
 use Rattle.kc_names.proofs.names.Names.number_pair.Goals as goal
