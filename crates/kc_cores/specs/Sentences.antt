@@ -14,7 +14,7 @@ use Rattle.kc_dialect_read.specs.declared.fault.PlacedRefusal.{PlacedRefusal}
 use Rattle.kc_head.specs.Foreign.{foreign_in}
 use Rattle.kc_head.specs.Shown.{shown_place}
 use Rattle.kc_head.specs.declared.foreign.Foreign.{Foreign}
-use Rattle.kc_head.specs.declared.foreign.Foreign.TheVariants.{BareReturns, Marked}
+use Rattle.kc_head.specs.declared.foreign.Foreign.TheVariants.{BareReturns, Json, Marked}
 use Rattle.kc_cores.specs.Wishes.{GraphText}
 use Rattle.kc_cores.specs.declared.input.FileFault.{FileFault}
 use Rattle.kc_cores.specs.declared.input.FileFault.TheVariants.{Missing, Folder, Forbidden, Other}
@@ -22,7 +22,7 @@ use Rattle.kc_cores.specs.declared.input.FileFault.TheVariants.{Missing, Folder,
 -- what was found wrong with a line, and how it is mended
 abbrev pub sentence_of : Kind → List ℕ
 sentence_of NotANumber =
-    codes "a field is not a whole number; where ids are names see --ids, begin a comment with #, or see --separator, --columns and --skip"
+    codes "a field is not a whole number; see --ids, --separator, --columns and --skip, make of a bar a blank by tr '|' ' ', or begin a comment with #"
 sentence_of MissingField = codes "the second id is missing; write two ids with a blank or a tab between them, or name what parts them by --separator"
 sentence_of ExtraField =
     codes "there are more than two fields; name the columns of the two ids, as by --columns 1,2, or write an adjacency list as edges, one a line"
@@ -79,6 +79,7 @@ format_sentence MatrixMarket =
 -- what is told of a text that is no lines of a graph, and how edges are made of it
 abbrev pub foreign_sentence : Foreign → List ℕ
 foreign_sentence (Marked signature) = format_sentence signature
+foreign_sentence Json = codes "this is JSON; make two columns of it, as by jq -r '[.source,.target]|@tsv' FILE | cores numbers"
 foreign_sentence BareReturns = codes "the lines end in CR alone; make them newlines, as by tr '\\r' '\\n' < FILE | cores numbers"
 
 -- what a text is that is no lines of a graph, as its head tells; where lines at the top are passed over, that is not asked

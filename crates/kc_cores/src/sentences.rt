@@ -13,7 +13,7 @@ pub(crate) fn sentence_of(kind: Kind) -> &'static str
 {
     match kind {
         Kind::NotANumber => {
-            "a field is not a whole number; where ids are names see --ids, begin a comment with #, or see --separator, --columns and --skip"
+            "a field is not a whole number; see --ids, --separator, --columns and --skip, make of a bar a blank by tr '|' ' ', or begin a comment with #"
         }
         Kind::MissingField => {
             "the second id is missing; write two ids with a blank or a tab between them, or name what parts them by --separator"
@@ -119,6 +119,9 @@ fn foreign_sentence(foreign: Foreign) -> &'static str
 {
     match foreign {
         Foreign::Marked(signature) => format_sentence(signature),
+        Foreign::Json => {
+            "this is JSON; make two columns of it, as by jq -r '[.source,.target]|@tsv' FILE | cores numbers"
+        }
         Foreign::BareReturns => {
             "the lines end in CR alone; make them newlines, as by tr '\\r' '\\n' < FILE | cores numbers"
         }

@@ -1,11 +1,11 @@
 -- Texts that are no lines of a graph, as their first bytes tell.
-use Rattle.std.specs.Prelude.{◌-◌, ◌==◌, ◌&&◌, not, ℕ, Bool, List, Option, Some, None, length, take, if◌then◌else◌}
+use Rattle.std.specs.Prelude.{◌-◌, ◌==◌, ◌&&◌, not, ℕ, Bool, List, Option, Some, None, codes, length, take, if◌then◌else◌}
 use Rattle.std.specs.List.{list_any}
-use Rattle.kc_dialect.specs.Signatures.{signature_of}
+use Rattle.kc_dialect.specs.Signatures.{begins_with, signature_of}
 use Rattle.kc_dialect.specs.declared.signatures.Signature.{Signature}
 use Rattle.kc_text.specs.Lines.{is_newline}
 use Rattle.kc_head.specs.declared.foreign.Foreign.{Foreign}
-use Rattle.kc_head.specs.declared.foreign.Foreign.TheVariants.{BareReturns, Marked}
+use Rattle.kc_head.specs.declared.foreign.Foreign.TheVariants.{BareReturns, Json, Marked}
 
 -- a carriage return
 abbrev pub is_return : ℕ → Bool
@@ -17,7 +17,7 @@ has_bare_returns head = not (list_any is_newline head) && list_any is_return (ta
 
 -- what a text is without a mark
 abbrev pub unmarked : List ℕ → Option Foreign
-unmarked head = if has_bare_returns head then Some BareReturns else None
+unmarked head = if begins_with (codes "{\"") head then Some Json else if has_bare_returns head then Some BareReturns else None
 
 -- what a text is with this mark, or without one
 abbrev pub marked : Option Signature → List ℕ → Option Foreign

@@ -10,6 +10,8 @@ use kc_dialect::{Signature, signature_of};
 pub enum Foreign {
     /// It begins with the mark of a format.
     Marked(Signature),
+    /// It begins as an object of JSON, with a brace and a quote.
+    Json,
     /// Its lines end in carriage returns alone: one stands before the last byte, and there is no newline.
     BareReturns,
 }
@@ -30,6 +32,7 @@ fn has_bare_returns(head: &[u8]) -> bool
 /// use kc_head::{Foreign, foreign_in};
 ///
 /// let packed = foreign_in(&[0x1f, 0x8b, 8, 0]); // Foreign::Marked(Signature::Gzip)
+/// let objects = foreign_in(b"{\"source\":1,\"target\":2}\n"); // Foreign::Json
 /// let old = foreign_in(b"1 2\r2 3\r"); // Foreign::BareReturns
 /// let edges = foreign_in(b"1 2\n2 3\n"); // none
 /// ```
@@ -39,7 +42,9 @@ pub fn foreign_in(head: &[u8]) -> Option<Foreign>
     if let Some(signature) = signature_of(head) {
         return Some(Foreign::Marked(signature));
     }
-    if has_bare_returns(head) {
+    if head.starts_with(b"{\"") {
+        Some(Foreign::Json)
+    } else if has_bare_returns(head) {
         Some(Foreign::BareReturns)
     } else {
         None

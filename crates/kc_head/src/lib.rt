@@ -1,7 +1,7 @@
 //! The head of a text: its first bytes, which tell what a text is that is no edge list, and where a line of it is wrong.
 //!
 //! [`read_head`] takes at most [`HEAD_BYTES`] bytes from a source. [`foreign_in`] tells by them that a text is compressed, in UTF-16, a
-//! matrix, or has lines that end in carriage returns alone. [`wrong_column`] gives the column of the field for which a line is refused
+//! matrix, of JSON objects, or has lines that end in carriage returns alone. [`wrong_column`] gives the column of the field for which a line is refused
 //! that stands in the head, and [`show_place`] writes the line with a caret under a column. So whoever reads a text piece by piece can say
 //! where it is wrong, and holds no more of it than its head.
 //!
