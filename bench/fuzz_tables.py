@@ -35,6 +35,9 @@ BESIDE = (b"x", b"0.5", b"-3", b"7", b"2026-11-29", b"{}", b"#", b"12:30")
 WRONG_WORDS = (("--columns", "0,1"), ("--columns", "2,2"), ("--columns", "1"), ("--columns", "1,a"), ("--columns", "1,2,3"), ("--columns", "4294967296,1"), ("--separator", "pipe"),
                ("--separator", ","), ("--skip", "x"), ("--skip", "4294967296"), ("--bad-lines", "drop"), ("--ids", "words"), ("--ids",), ("--column", "1,2"), ("--bad-lines",))
 
+MARKS = ((b"\x1f\x8b", "this is gzip; "), (b"BZh", "this is bzip2; "), (b"\xfd7zXZ\0", "this is xz; "), (b"\x28\xb5\x2f\xfd", "this is zstd; "), (b"\xff\xfe", "this is UTF-16; "),
+         (b"\xfe\xff", "this is UTF-16; "), (b"%%MatrixMarket", "this is MatrixMarket; "), (b'{"', "this is JSON; "))
+
 # How a table is read: the columns of the ids, the separator, the lines of the head, what becomes of bad lines, and what the ids are.
 Dialect = collections.namedtuple("Dialect", "columns separator skip bad_lines ids")
 
@@ -72,7 +75,8 @@ def table_of(draw, dialect):
     """A random table in this dialect."""
     ids = [b"%d" % v for v in draw.sample(range(draw.choice((9, 60, GREATEST + 1))), 8)] if dialect.ids == "numbers" else draw.sample(NAMES, 8)
     wrong, ends = draw.choice((0, 0, 0.05, 0.5)), draw.choice(((b"\n",), (b"\r\n",), (b"\n", b"\n", b"\r\n")))
-    lines = []
+    ends = (b"\r",) if draw.random() < 0.02 else ends
+    lines = [b"%%MatrixMarket matrix\n"] if draw.random() < 0.02 else []
     for number in range(draw.randrange(30)):
         line = row_of(draw, dialect, ids, wrong)
         if number < dialect.skip and draw.random() < 0.8:
@@ -185,6 +189,16 @@ def wanted_of(rows, command, words):
     return fuzz_cores.written(*labelled(*fuzz_cores.wanted(neighbours, core, 2)[command], labels), words), summary
 
 
+def foreign(text, dialect):
+    """What a text may be that is no table, as its first mebibyte tells: the start of the sentence, or nothing."""
+    head = text[:PIECE]
+    if dialect.skip:
+        return []
+    marks = [sentence for mark, sentence in MARKS if head.startswith(mark)]
+    returns = ["the lines end in CR alone; "] if b"\n" not in head and b"\r" in head[:-1] else []
+    return (marks or returns)[:1]
+
+
 def is_told(found, starts):
     """Whether the lines on standard error begin so."""
     found = found.splitlines()
@@ -218,7 +232,9 @@ def difference(program, draw, place, tried):
     else:
         wanted, summary = wanted_of(rows, command, words)
         tried["read with bad lines" if bad else "read, without an edge line" if not rows else f"read as {dialect.ids}"] += 1
-        starts = [f"{front}line {number}, column {column}: " for number, column in bad[:5]]
+        starts = [front + sentence for sentence in foreign(text, dialect)]
+        tried["read, and told that it may be no table"] += len(starts)
+        starts += [f"{front}line {number}, column {column}: " for number, column in bad[:5]]
         starts += [f"{front}{'1 line was' if len(bad) == 1 else f'{len(bad)} lines were'} passed over"] if bad else []
         right = (status, lines) == (0, wanted) and is_told(told, [*starts, summary])
     return None if right else (way, asked[1:], text, status, lines, told)

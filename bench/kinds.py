@@ -148,8 +148,8 @@ def format_rows():
         refused("MatrixMarket", matrix, 3, 5, ("MatrixMarket", "--skip")),
         right("MatrixMarket", matrix, PATH, "--skip", "3"),
         right("MatrixMarket with values", reals, PATH, "--skip", "2", "--columns", "1,2"),
-        refused("MatrixMarket with values and --columns alone", reals, 2, 1, "MatrixMarket", "--columns", "1,2",
-                known=f"the size line is {TAKEN_AS_EDGE}: an id 9 of core number 0", silent=True),
+        right("MatrixMarket with values and --columns alone: its size line is an edge line", reals, [(9, 9), (2, 1), (3, 2)], "--columns", "1,2",
+              told=("this is MatrixMarket; pass over its lines up to that of the sizes by --skip",)),
         refused("a header line n m", "9 2\n1 2\n2 3\n", 1, 1, "--skip", known=f"{TAKEN_AS_EDGE}; nothing in the file tells it", silent=True),
         right("a header line n m", size_line, PATH, "--skip", "1"),
         refused("adjacency list", adjacency, 1, 5, "adjacency"),
@@ -184,10 +184,9 @@ def byte_rows():
         refused("UTF-16 (PowerShell)", plain.decode().encode("utf-16"), 1, None, ("UTF-16", "iconv")),
         refused("UTF-16 with a dialect", plain.decode().encode("utf-16"), 1, None, ("UTF-16", "iconv"), "--columns", "1,2"),
         refused("lines that end in CR alone", "1 2\r2 3\r", 1, 3, "CR"),
-        refused("CR alone behind a comment", "# a comment\r1 2\r2 3\r", 1, None, "CR",
-                known="all is one comment: an empty graph, without a word", silent=True),
-        refused("CR alone, first two columns", "1 2 x\r2 3 y\r", 1, 6, "CR", "--columns", "1,2",
-                known="all is one line: the other edges are lost without a word", silent=True),
+        right("CR alone behind a comment: all is one comment", "# a comment\r1 2\r2 3\r", [], told=("the lines end in CR alone; make them newlines, as by tr",)),
+        right("CR alone, first two columns: all is one line", "1 2 x\r2 3 y\r", [(1, 2)], "--columns", "1,2", told=("the lines end in CR alone; make them newlines, as by tr",)),
+        right("CR alone by tr", "# a comment\r1 2\r2 3\r".replace("\r", "\n"), PATH, by_pipe=True),
     ]
     for name, text, mend, ending in packed:
         rows.append(refused(name, text, 1, None, (name, mend), name="graph.txt" + ending))

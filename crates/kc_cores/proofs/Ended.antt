@@ -11,10 +11,12 @@ use Rattle.kc_text.specs.declared.kind.Kind.{Kind}
 use Rattle.kc_text.specs.Meaning.{Means, Refuses, Told}
 use Rattle.kc_dialect.specs.declared.dialect.Dialect.{Dialect}
 use Rattle.kc_dialect.specs.declared.skipped.SkippedLines.{SkippedLines}
+use Rattle.kc_head.specs.declared.foreign.Foreign.{Foreign}
 use Rattle.kc_cores.specs.Answers.{AreLinesFor, IsRefusedBy, graph_meaning, graph_names, labels_of, passed_over, summary_line}
 use Rattle.kc_cores.specs.CoresEnded.{CoresEnded, FaultsAt, IsAnswerTo, IsLineAt, ReaderAt, TookAt, WriteFaultsAt, done_line, given_bytes}
 use Rattle.kc_cores.specs.Endings.{CutAt, NoFileGraphAt}
 use Rattle.kc_cores.specs.Inputs.{IsNamedGraphOf, known_bytes}
+use Rattle.kc_cores.specs.Sentences.{told_foreign}
 use Rattle.kc_cores.specs.Skips.{skipped_report, told_skips}
 use Rattle.kc_cores.specs.Wishes.{Asks, Query, Wish}
 use Rattle.kc_cores.specs.declared.CoresStatus.{CoresStatus}
@@ -33,7 +35,7 @@ clash dialect bytes told n kind means refuses = absurd (cc)
 -- bytes that have an answer are not refused
 answer-clash : (query : Query) (known : Option (List ℕ)) (text summary bytes : List ℕ) (n : ℕ) (kind : Kind)
     → IsAnswerTo (Asks query) known text summary → known ≡ Some bytes → graph_meaning query.graph.dialect bytes ≡ Refuses n kind → ⊥
-answer-clash query known text summary bytes n kind (all, read, is) here refuses =
+answer-clash query known text summary bytes n kind (all, read, (what, begins, is)) here refuses =
     clash query.graph.dialect all is.told n kind is.means (ap (graph_meaning query.graph.dialect) (of_known (λ b. all ≡ b) known bytes here read) ∙ refuses)
 
 -- where the bytes of a task are refused, the run ends by the refusal, or before it
@@ -79,25 +81,33 @@ complete-of status.Refused query known before after line bytes told right took (
 
 -- the graph of the bytes that were read has these lines and this summary
 pub IsAnswerTo-graph : (query : Query) (ids core text summary : List ℕ) (called : Option (List (List ℕ))) (g : SimpleGraph) (skipped : SkippedLines)
-    (known : Option (List ℕ)) → IsNamedGraphOf query.graph.dialect known ids called g skipped → AreCoreNumbers g core
+    (what : Option Foreign) (known : Option (List ℕ)) → IsNamedGraphOf query.graph.dialect known ids called g skipped what → AreCoreNumbers g core
     → AreLinesFor query.format query.task (labels_of called ids) g core text
-    → summary ≡ told_skips query.graph.file skipped.count skipped.first.items ++ summary_line g core → IsAnswerTo (Asks query) known text summary
-IsAnswerTo-graph query ids core text summary called g skipped known named numbers lines sums =
-    let graph = named.graph in (
+    → summary ≡ told_foreign query.graph.file what ++ (told_skips query.graph.file skipped.count skipped.first.items ++ summary_line g core)
+    → IsAnswerTo (Asks query) known text summary
+IsAnswerTo-graph query ids core text summary called g skipped what known named numbers lines sums =
+    let graph = named.graph in
+    let remark : List ℕ = told_foreign query.graph.file what in (
       graph.bytes,
       graph.read,
-      record {
-        told = graph.told;
-        means = graph.means;
-        ids = ids;
-        named = graph.named;
-        core = core;
-        numbers = subst (λ (h : SimpleGraph). AreCoreNumbers h core) graph.is numbers;
-        is = subst (λ (h : SimpleGraph). AreLinesFor query.format query.task (labels_of (graph_names query.graph.dialect graph.bytes) ids) h core text) graph.is
-            (subst (λ (names : Option (List (List ℕ))). AreLinesFor query.format query.task (labels_of names ids) g core text) named.names lines);
-        sums = sums ∙ (λ i. told_skips query.graph.file (graph.passed.count i) (graph.passed.first i) ++ summary_line g core)
-            ∙ ap (λ (h : SimpleGraph). skipped_report query.graph.file (passed_over query.graph.dialect graph.bytes) ++ summary_line h core) graph.is;
-      },
+      (
+        what,
+        named.begins,
+        record {
+          told = graph.told;
+          means = graph.means;
+          ids = ids;
+          named = graph.named;
+          core = core;
+          numbers = subst (λ (h : SimpleGraph). AreCoreNumbers h core) graph.is numbers;
+          is = subst (λ (h : SimpleGraph). AreLinesFor query.format query.task (labels_of (graph_names query.graph.dialect graph.bytes) ids) h core text)
+              graph.is
+              (subst (λ (names : Option (List (List ℕ))). AreLinesFor query.format query.task (labels_of names ids) g core text) named.names lines);
+          sums = sums ∙ (λ i. remark ++ (told_skips query.graph.file (graph.passed.count i) (graph.passed.first i) ++ summary_line g core))
+              ∙ ap (λ (h : SimpleGraph). remark ++ (skipped_report query.graph.file (passed_over query.graph.dialect graph.bytes) ++ summary_line h core))
+              graph.is;
+        },
+      ),
     )
 
 module _ {I O : Type 0} (source : sources.Ghosts I) (behind : I → List ℕ → Option (List ℕ)) (out : sinks.Ghosts O) (gone : O → Bool) where

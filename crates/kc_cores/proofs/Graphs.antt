@@ -13,10 +13,11 @@ use Rattle.kc_dialect.specs.declared.dialect.Dialect.{Dialect}
 use Rattle.kc_dialect.specs.declared.skipped.SkippedLines.{SkippedLines}
 use Rattle.kc_dialect_read.specs.Meanings.{dialect_meaning}
 use Rattle.kc_dialect_read.specs.declared.plain_reader.DialectEdges.{DialectEdges}
+use Rattle.kc_head.specs.declared.foreign.Foreign.{Foreign}
 use Rattle.kc_read.proofs.StartGraphs.{size-start_graph}
 use Rattle.kc_claims.specs.Streams.{HoldsOfStream}
 use Rattle.kc_claims.specs.declared.claim.Claim.{Claim}
-use Rattle.kc_cores.specs.Answers.{graph_meaning, passed_over}
+use Rattle.kc_cores.specs.Answers.{IsForeignBy, graph_meaning, passed_over}
 use Rattle.kc_cores.specs.CheckEnded.{AreClaimsOf, HoldsOfBoth}
 use Rattle.kc_cores.specs.Inputs.{AreReadFrom, IsGraphOf, IsNamedGraphOf, known_bytes}
 use Rattle.kc_cores.proofs.Unmarked.{unmarked}
@@ -53,15 +54,16 @@ IsGraphOf-read dialect known ids found g skipped r same is passed = record {
   is = graph-of_pairs r.told found.named g r.are is ∙ sym (ap (λ (xs : List ℕ). start_graph xs r.told.edges) same);
 }
 
--- and its names are those of the bytes
+-- its names are those of the bytes, and their head tells what they may be
 pub IsNamedGraphOf-read : (dialect : Option Dialect) (known : Option (List ℕ)) (ids : List ℕ) (called : Option (List (List ℕ))) (found : DialectEdges)
-    (g : SimpleGraph) (skipped : SkippedLines) → AreReadFrom dialect known found → ids ≡ found.named.ids.items → called ≡ found.names
-    → g ≡ record { size = length found.named.ids.items; edges = set.from_list found.named.edges.items } → skipped ≡ found.skipped
-    → IsNamedGraphOf dialect known ids called g skipped
+    (g : SimpleGraph) (skipped : SkippedLines) (what : Option Foreign) → AreReadFrom dialect known found → ids ≡ found.named.ids.items
+    → called ≡ found.names → g ≡ record { size = length found.named.ids.items; edges = set.from_list found.named.edges.items }
+    → skipped ≡ found.skipped → IsForeignBy dialect known what → IsNamedGraphOf dialect known ids called g skipped what
 unfolding IsGraphOf-read
-IsNamedGraphOf-read dialect known ids called found g skipped r same kept is passed = record {
+IsNamedGraphOf-read dialect known ids called found g skipped what r same kept is passed begins = record {
   graph = IsGraphOf-read dialect known ids found g skipped r same is passed;
   names = kept ∙ r.called;
+  begins = begins;
 }
 
 -- the graph of what was read has a vertex for each id

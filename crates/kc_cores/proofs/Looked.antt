@@ -10,12 +10,14 @@ use Rattle.kc_dialect_read.specs.declared.fault.PlacedRefusal.{PlacedRefusal}
 use Rattle.kc_dialect_read.specs.declared.plain_reader.DialectEdges.{DialectEdges}
 use Rattle.kc_head.specs.Heads.{IsHeadOf, behind_head, head_of}
 use Rattle.kc_head.specs.Places.{wrong_column}
+use Rattle.kc_head.specs.declared.foreign.Foreign.{Foreign}
 use Rattle.kc_head.proofs.Fronts.{head-cut, mark-cut}
 use Rattle.kc_read.specs.Reading.{AreEdgesWithin}
 use Rattle.kc_text.specs.Meaning.{Means, Refuses, meaning}
 use Rattle.kc_text.specs.declared.limits.TheConstants.Limits.{GRAPH}
-use Rattle.kc_cores.specs.Answers.{IsRefusedBy}
+use Rattle.kc_cores.specs.Answers.{IsForeignBy, IsRefusedBy}
 use Rattle.kc_cores.specs.Inputs.{AreReadFrom, HasFewIds, IsLookedAt, text_bytes}
+use Rattle.kc_cores.specs.Sentences.{foreign}
 use Rattle.kc_cores.proofs.Graphs.{graph_meaning-in, graph_meaning-is}
 
 -- what is read of a text is what is read of its head, and then what is behind it
@@ -37,6 +39,12 @@ IsLookedAt-put_back dialect (Some all) between after head text h is put = (
 -- what is told of all bytes, where they are known, is told of these
 pub of_known : (P : List ℕ → Type 0) (known : Option (List ℕ)) (bytes : List ℕ) → known ≡ Some bytes → IfSome known P → P bytes
 of_known P known bytes is h = subst (λ (k : Option (List ℕ)). IfSome k P) is h
+
+-- what the head tells is told by the head of all bytes, where they are known
+pub IsForeignBy-looked : (dialect : Option Dialect) (known left : Option (List ℕ)) (head : List ℕ) (what : Option Foreign)
+    → IsLookedAt dialect known left head → what ≡ foreign dialect head → IsForeignBy dialect known what
+IsForeignBy-looked dialect None left head what looked is = tt
+IsForeignBy-looked dialect (Some all) left head what looked is = is ∙ ap (foreign dialect) looked.0
 
 -- a mark, and then some bytes
 marked : List ℕ → List ℕ

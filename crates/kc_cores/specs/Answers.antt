@@ -1,5 +1,5 @@
 -- The lines that each task has for the graph of a text.
-use Rattle.std.specs.Prelude.{◌≡◌, ◌+◌, ◌++◌, ◌&&◌, ◌==◌, ℕ, Bool, List, [], ◌∷◌, Option, None, Some, codes, decimal, filter, length, map}
+use Rattle.std.specs.Prelude.{◌≡◌, ◌+◌, ◌++◌, ◌&&◌, ◌==◌, ℕ, Bool, List, [], ◌∷◌, Option, None, Some, IfSome, codes, decimal, filter, length, map}
 use Rattle.std.specs.Prelude.{nat_le, slice_index_or, unwrap_or}
 use Rattle.std.specs.FinSet as set
 use Rattle.std.specs.List.{flat_map}
@@ -14,6 +14,7 @@ use Rattle.kc_graph.specs.Peeling.{at}
 use Rattle.kc_graph.specs.SimpleGraph.{SimpleGraph}
 use Rattle.kc_head.specs.Heads.{head_of}
 use Rattle.kc_head.specs.Places.{wrong_column}
+use Rattle.kc_head.specs.declared.foreign.Foreign.{Foreign}
 use Rattle.kc_text.specs.Inputs.{AreIds, start_graph}
 use Rattle.kc_text.specs.Meaning.{Means, Meaning, Refuses, Told, meaning, names}
 use Rattle.kc_text.specs.declared.limits.TheConstants.Limits.{GRAPH}
@@ -23,7 +24,7 @@ use Rattle.kc_lines.specs.Fields.{Label, Name, Number}
 use Rattle.kc_lines.specs.declared.format.Format.{Format}
 use Rattle.kc_names.specs.Names.{name_at}
 use Rattle.kc_cores.specs.Lines.{counts_line, edge_line, layer_line, member_line, number_line}
-use Rattle.kc_cores.specs.Sentences.{GraphRefusal}
+use Rattle.kc_cores.specs.Sentences.{GraphRefusal, foreign, told_foreign}
 use Rattle.kc_cores.specs.Skips.{skipped_report}
 use Rattle.kc_cores.specs.Wishes.{Query}
 use Rattle.kc_cores.specs.declared.request.Task.{Task}
@@ -45,6 +46,10 @@ abbrev pub IsRefusedBy : Option Dialect → List ℕ → GraphRefusal → Type 0
 IsRefusedBy dialect bytes refusal =
     (graph_meaning dialect bytes ≡ Refuses refusal.placed.refusal.line refusal.placed.refusal.kind)
     × (refusal.placed.column ≡ refused_column dialect bytes refusal.placed.refusal) × (refusal.head ≡ head_of bytes)
+
+-- what a text may be that is no lines of a graph, as the head of all its bytes tells, where they are known
+abbrev pub IsForeignBy : Option Dialect → Option (List ℕ) → Option Foreign → Type 0
+IsForeignBy dialect known what = IfSome known (λ all. what ≡ foreign dialect (head_of all))
 
 -- the bad lines of a text in a dialect, if it is in one
 abbrev pub passed_over : Option Dialect → List ℕ → List BadLine
@@ -132,9 +137,9 @@ summary_line g core =
     codes "vertices " ++ (decimal g.size ++ (codes " edges " ++ (decimal (set.len g.edges) ++ (codes " top " ++ (decimal (greatest core) ++ 10 ∷ [])))))
 
 -- The bytes mean a graph without batches, whose vertices stand for the ids in ascending order. Where ids are names, the ids of the graph are
--- their numbers, in the order of their first coming. These are its lines for the task, and what is told of the run: the bad lines that were
--- passed over, and the summary of the graph.
-pub record IsTextFor (query : Query) (bytes text summary : List ℕ) : Type 0 where
+-- their numbers, in the order of their first coming. These are its lines for the task, and what is told of the run: what the text may be that is
+-- no lines of a graph, the bad lines that were passed over, and the summary of the graph.
+pub record IsTextFor (query : Query) (bytes : List ℕ) (what : Option Foreign) (text summary : List ℕ) : Type 0 where
   pub told : Told
   pub means : graph_meaning query.graph.dialect bytes ≡ Means told
   pub ids : List ℕ
@@ -142,4 +147,5 @@ pub record IsTextFor (query : Query) (bytes text summary : List ℕ) : Type 0 wh
   pub core : List ℕ
   pub numbers : AreCoreNumbers (start_graph ids told.edges) core
   pub is : AreLinesFor query.format query.task (labels_of (graph_names query.graph.dialect bytes) ids) (start_graph ids told.edges) core text
-  pub sums : summary ≡ skipped_report query.graph.file (passed_over query.graph.dialect bytes) ++ summary_line (start_graph ids told.edges) core
+  pub sums : summary ≡ told_foreign query.graph.file what
+      ++ (skipped_report query.graph.file (passed_over query.graph.dialect bytes) ++ summary_line (start_graph ids told.edges) core)

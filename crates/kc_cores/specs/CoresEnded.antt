@@ -5,10 +5,11 @@ use Rattle.kc_io.specs.Causes.{Rose}
 use Rattle.kc_io.specs.FirstPiece.{KeepsFirst}
 use Rattle.kc_io.specs.declared.sink.Sink as sinks
 use Rattle.kc_io.specs.declared.source.Source as sources
+use Rattle.kc_head.specs.declared.foreign.Foreign.{Foreign}
 use Rattle.kc_text.specs.declared.kind.Kind.{Kind}
 use Rattle.kc_text.specs.Meaning.{Means, Refuses, Told}
 use Rattle.clap.specs.Kinds.{Kinds}
-use Rattle.kc_cores.specs.Answers.{IsRefusedBy, IsTextFor, graph_meaning}
+use Rattle.kc_cores.specs.Answers.{IsForeignBy, IsRefusedBy, IsTextFor, graph_meaning}
 use Rattle.kc_cores.specs.Inputs.{known_bytes}
 use Rattle.kc_cores.specs.Sentences.{GraphRefusal, no_memory_line, read_fault_line, refused_line, unopened_line, unopened_short_line, write_fault_line}
 use Rattle.kc_cores.specs.Wishes.{Asks, Checks, ChecksStream, MayReply, Query, Replies, Saves, Watches, Wish}
@@ -27,7 +28,9 @@ given_bytes left behind (Replies kinds) i = None
 
 -- the lines and the summary of what was read, which is all of the input where it is known
 abbrev pub IsAnswerTo : Wish → Option (List ℕ) → List ℕ → List ℕ → Type 0
-IsAnswerTo (Asks query) known text summary = (bytes : List ℕ) × IfSome known (λ all. bytes ≡ all) × IsTextFor query bytes text summary
+IsAnswerTo (Asks query) known text summary =
+    (bytes : List ℕ) × IfSome known (λ all. bytes ≡ all)
+    × ((what : Option Foreign) × IsForeignBy query.graph.dialect known what × IsTextFor query bytes what text summary)
 IsAnswerTo (Saves name query) known text summary = ⊥
 IsAnswerTo (Checks name graph) known text summary = ⊥
 IsAnswerTo (ChecksStream name file) known text summary = ⊥

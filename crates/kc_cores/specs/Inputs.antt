@@ -12,7 +12,8 @@ use Rattle.kc_dialect.specs.declared.dialect.Dialect.{Dialect}
 use Rattle.kc_dialect.specs.declared.skipped.SkippedLines.{SkippedLines}
 use Rattle.kc_dialect_read.specs.declared.plain_reader.DialectEdges.{DialectEdges}
 use Rattle.kc_head.specs.Heads.{head_of}
-use Rattle.kc_cores.specs.Answers.{graph_meaning, graph_names, passed_over}
+use Rattle.kc_head.specs.declared.foreign.Foreign.{Foreign}
+use Rattle.kc_cores.specs.Answers.{IsForeignBy, graph_meaning, graph_names, passed_over}
 
 -- what is known of bytes that are not told
 abbrev pub no_bytes : Option (List ℕ)
@@ -88,8 +89,10 @@ pub record IsGraphOf (dialect : Option Dialect) (known : Option (List ℕ)) (ids
   pub named : AreIds (names told) ids
   pub is : g ≡ start_graph ids told.edges
 
--- The graph that the bytes mean, as `IsGraphOf` says, and the names for which its ids stand, where these are names.
+-- The graph that the bytes mean, as `IsGraphOf` says, the names for which its ids stand, where these are names, and what the text may be that is no
+-- lines of a graph.
 pub record IsNamedGraphOf (dialect : Option Dialect) (known : Option (List ℕ)) (ids : List ℕ) (called : Option (List (List ℕ))) (g : SimpleGraph)
-    (skipped : SkippedLines) : Type 0 where
+    (skipped : SkippedLines) (what : Option Foreign) : Type 0 where
   pub graph : IsGraphOf dialect known ids g skipped
   pub names : called ≡ graph_names dialect graph.bytes
+  pub begins : IsForeignBy dialect known what

@@ -92,6 +92,16 @@ abbrev pub sentence_for : Option Foreign → Option Dialect → Kind → List �
 sentence_for (Some what) dialect kind = foreign_sentence what
 sentence_for None dialect kind = text_sentence dialect kind
 
+-- `FILE: `, where a file is named
+abbrev pub in_file : Option (List ℕ) → List ℕ
+in_file None = []
+in_file (Some name) = name ++ codes ": "
+
+-- `cores: FILE: SENTENCE`, where a text that was read as lines of a graph may be none
+abbrev pub told_foreign : Option (List ℕ) → Option Foreign → List ℕ
+told_foreign file None = []
+told_foreign file (Some what) = codes "cores: " ++ (in_file file ++ (foreign_sentence what ++ 10 ∷ []))
+
 -- Why the text of a graph is refused, and the head of the text.
 pub record GraphRefusal : Type 0 where
   pub placed : PlacedRefusal
@@ -101,11 +111,6 @@ pub record GraphRefusal : Type 0 where
 abbrev pub at_column : Option ℕ → List ℕ
 at_column None = []
 at_column (Some column) = codes ", column " ++ decimal column
-
--- `FILE: `, where a file is named
-abbrev pub in_file : Option (List ℕ) → List ℕ
-in_file None = []
-in_file (Some name) = name ++ codes ": "
 
 -- `line 12, column 5`
 abbrev pub at_place : PlacedRefusal → List ℕ

@@ -21,7 +21,8 @@
 //! The options `--columns`, `--separator`, `--skip`, `--bad-lines` and `--ids` tell a dialect, as the end of a file's name does
 //! (`dialect_words`). A text in a dialect means what the text of numbers means for which it stands; without one it is read as it is, but for
 //! a byte order mark. Where ids are names, lines have the names in their place (`labels`). The head of a text is looked at first (`kc_head`):
-//! where the text is refused, it tells what the text is, and shows the line.
+//! where the text is refused, it tells what the text is, and shows the line; where it is read and may be no lines of a graph, that is told
+//! (`remarks`).
 //!
 //! The crate stands on `kc_io` for sources and sinks, on `kc_text` for what a text means, on `kc_dialect` and `kc_dialect_read` for
 //! dialects, on `kc_names` for names, on `kc_head` for the head of a text, on `kc_flat` and `kc_graph` for core numbers, on `kc_tally` for layers, on
@@ -49,6 +50,7 @@ pub mod pipe;
 mod prepared;
 pub mod program;
 mod reading;
+mod remarks;
 mod request;
 mod saving;
 mod sentences;

@@ -6,6 +6,7 @@ ghost use Rattle.kc_cores.specs.CoresEnded.{IsAnswerTo};
 ghost use Rattle.kc_cores.specs.Endings.{HasNoFileGraph, query_of, text_of};
 ghost use Rattle.kc_cores.specs.Inputs.{known_bytes};
 ghost use Rattle.kc_cores.specs.Listings.{AreReady, made_text};
+ghost use Rattle.kc_cores.specs.Sentences.{told_foreign};
 ghost use Rattle.kc_cores.specs.Skips.{told_skips};
 ghost use Rattle.kc_cores.specs.Wishes.{Asks};
 
@@ -15,12 +16,14 @@ use crate::labels::Labels;
 use crate::listing::listing_of;
 use crate::made_lines::MadeLines;
 use crate::reading::{NamedGraph, read_graph};
+use crate::remarks::told_foreign;
 use crate::request::Request;
 use crate::skips::told_skips;
 use crate::summary::summary_line;
 use kc_dialect::SkippedLines;
 use kc_flat::{Decomposition, FlatGraph, decompose};
 use kc_graph::NoMemory;
+use kc_head::Foreign;
 use kc_lines::page::Page;
 use std::alloc::Global;
 
@@ -32,20 +35,23 @@ pub(crate) struct Prepared {
     pub(crate) told: String,
 }
 
-/// What is told of a run that is done: the bad lines that were passed over, and the summary of the graph.
+/// What is told of a run that is done: what the text may be that is no lines of a graph, the bad lines that were passed over, and the summary of
+/// the graph.
 fn told_of(
     alloc: Global,
     file: Option<&str>,
+    what: Option<Foreign>,
     skipped: &SkippedLines,
     graph: &FlatGraph,
     core: &[u32],
 ) -> Result<String, NoMemory>
-    ensures { IfOk result (λ told. string_bytes told ≡ told_skips (option_map (λ t. t.now) file.entry) skipped.now.count
-        skipped.now.first.items ++ summary_line graph.now core.now) }
+    ensures { IfOk result (λ told. string_bytes told ≡ told_foreign (option_map (λ t. t.now) file.entry) what
+        ++ (told_skips (option_map (λ t. t.now) file.entry) skipped.now.count skipped.now.first.items ++ summary_line graph.now core.now)) }
 {
+    let remark = told_foreign(alloc, file, what)?;
     let skips = told_skips(alloc, file, skipped)?;
     let summary = summary_line(alloc, graph, core)?;
-    format!(in alloc; "{skips}{summary}")
+    format!(in alloc; "{remark}{skips}{summary}")
 }
 
 /// Reads the graph of the input, and makes the lines that are asked for.
@@ -67,9 +73,10 @@ pub(crate) fn prepare<I: FileInput>(
         names,
         graph,
         skipped,
+        what,
     } = read_graph(alloc, request.graph, input)?;
     let Decomposition { core, order } = decompose(alloc, &graph)?;
-    let told = told_of(alloc, request.graph.file, &skipped, &graph, &core)?;
+    let told = told_of(alloc, request.graph.file, what, &skipped, &graph, &core)?;
     let listing = listing_of(alloc, request.task, &graph, &core, order)?;
     let page = Page::new(alloc)?;
     let labels = Labels::new(ids, names);

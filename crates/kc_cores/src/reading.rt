@@ -9,11 +9,12 @@ ghost use Rattle.kc_cores.specs.Wishes.{GraphText};
 use crate::ending::{Ending, refused, unopened};
 use crate::input::FileInput;
 use crate::request::NamedText;
+use crate::sentences::foreign;
 use kc_dialect::{Dialect, SkippedLines, without_mark};
 use kc_dialect_read::{DialectEdges, DialectFault, PlacedRefusal, read_edges_in};
 use kc_flat::FlatGraph;
 use kc_graph::NoMemory;
-use kc_head::{HeadFault, read_head, wrong_column};
+use kc_head::{Foreign, HeadFault, read_head, wrong_column};
 use kc_io::source::Source;
 use kc_names::Names;
 use kc_read::{InputFault, read_edges};
@@ -30,6 +31,8 @@ pub(crate) struct NamedGraph {
     pub(crate) graph: FlatGraph,
     /// The bad lines that were passed over.
     pub(crate) skipped: SkippedLines,
+    /// What the text may be that is no lines of a graph.
+    pub(crate) what: Option<Foreign>,
 }
 
 /// What is read of the bytes of a text: where it is in no dialect, all but a byte order mark at its front.
@@ -152,13 +155,18 @@ fn edges_from<S: Source>(
     }
 }
 
-/// The graph of what was read.
-fn graph_of(alloc: Global, found: DialectEdges) -> Result<NamedGraph, NoMemory>
+/// The graph of what was read, and what the text may be that is no lines of a graph.
+fn graph_of(
+    alloc: Global,
+    what: Option<Foreign>,
+    found: DialectEdges,
+) -> Result<NamedGraph, NoMemory>
     requires { HasFewIds found.named }
     ensures ids { IfOk result (λ named. named.ids.items ≡ found.named.ids.items) }
     ensures graph { IfOk result (λ named. named.graph ≡ record { size = length found.named.ids.items; edges = set.from_list found.named.edges.items }) }
     ensures names { IfOk result (λ named. named.names ≡ found.names) }
     ensures skipped { IfOk result (λ named. named.skipped ≡ found.skipped) }
+    ensures what { IfOk result (λ named. named.what ≡ what) }
 {
     let DialectEdges {
         named,
@@ -172,6 +180,7 @@ fn graph_of(alloc: Global, found: DialectEdges) -> Result<NamedGraph, NoMemory>
         names,
         graph,
         skipped,
+        what,
     })
 }
 
@@ -183,14 +192,15 @@ fn graph_behind<S: Source>(
     source: &mut S,
 ) -> Result<NamedGraph, Ending>
     ensures graph { (known : Option (List ℕ)) → IsLookedAt text.entry.dialect known (S.left source.old) head.now
-        → IfOk result (λ named. IsNamedGraphOf text.entry.dialect known named.ids.items named.names named.graph named.skipped) }
+        → IfOk result (λ named. IsNamedGraphOf text.entry.dialect known named.ids.items named.names named.graph named.skipped named.what) }
     ensures read { OnOk result (IsAtEnd (S.left source.new)) }
     ensures stopped { (known : Option (List ℕ)) → IsLookedAt text.entry.dialect known (S.left source.old) head.now
         → IfErr result (λ ending. HasNoGraph ending (text_of text.entry) known (S.faults source.old) (S.faults source.new)) }
     ensures faultless { OnOk result (S.faults source.new ≡ S.faults source.old) }
 {
+    let what = foreign(text.dialect, head);
     let found = edges_from(alloc, text, head, source)?;
-    Ok(graph_of(alloc, found)?)
+    Ok(graph_of(alloc, what, found)?)
 }
 
 /// The graph of all that the input has left.
@@ -199,7 +209,8 @@ fn graph_from<I: FileInput>(
     text: NamedText<'_>,
     input: &mut I,
 ) -> Result<NamedGraph, Ending>
-    ensures graph { IfOk result (λ named. IsNamedGraphOf text.entry.dialect (I.left input.old) named.ids.items named.names named.graph named.skipped) }
+    ensures graph { IfOk result (λ named. IsNamedGraphOf text.entry.dialect (I.left input.old) named.ids.items named.names named.graph named.skipped
+        named.what) }
     ensures read { OnOk result (IsAtEnd (I.left input.new)) }
     ensures stopped { IfErr result (λ ending. HasNoGraph ending (text_of text.entry) (I.left input.old) (I.faults input.old) (I.faults input.new)) }
     ensures faultless { OnOk result (I.faults input.new ≡ I.faults input.old) }
@@ -229,7 +240,7 @@ pub(crate) fn read_graph<I: FileInput>(
     input: &mut I,
 ) -> Result<NamedGraph, Ending>
     ensures graph { IfOk result (λ named. IsNamedGraphOf text.entry.dialect (known_bytes I.left I.behind (text_of text.entry).file input.old)
-        named.ids.items named.names named.graph named.skipped) }
+        named.ids.items named.names named.graph named.skipped named.what) }
     ensures read { OnOk result (IsAtEnd (I.left input.new)) }
     ensures stopped { IfErr result (λ ending. HasNoFileGraph ending (text_of text.entry)
         (known_bytes I.left I.behind (text_of text.entry).file input.old) (I.faults input.old) (I.faults input.new)) }

@@ -114,7 +114,7 @@ fn format_sentence(signature: Signature) -> &'static str
 }
 
 /// What is told of a text that is no lines of a graph, and how edges are made of it.
-fn foreign_sentence(foreign: Foreign) -> &'static str
+pub(crate) fn foreign_sentence(foreign: Foreign) -> &'static str
     ensures { result.now ≡ foreign_sentence foreign }
 {
     match foreign {
@@ -129,7 +129,7 @@ fn foreign_sentence(foreign: Foreign) -> &'static str
 }
 
 /// What a text is that is no lines of a graph, as its head tells. Where lines at the top are passed over, that is not asked.
-fn foreign(dialect: Option<Dialect>, head: &[u8]) -> Option<Foreign>
+pub(crate) fn foreign(dialect: Option<Dialect>, head: &[u8]) -> Option<Foreign>
     ensures { result ≡ foreign dialect head.now }
 {
     match dialect {

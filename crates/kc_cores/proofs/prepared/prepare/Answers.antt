@@ -11,8 +11,10 @@ use Rattle.kc_cores.specs.CoresEnded.{IsAnswerTo}
 use Rattle.kc_cores.specs.Inputs.{IsNamedGraphOf}
 use Rattle.kc_cores.specs.Wishes.{Asks, Query}
 use Rattle.kc_dialect.specs.declared.skipped.SkippedLines.{SkippedLines}
+use Rattle.kc_head.specs.declared.foreign.Foreign.{Foreign}
 use Rattle.kc_cores.specs.Endings.{query_of}
 use Rattle.kc_cores.specs.Listings.{Fits, listing_lines}
+use Rattle.kc_cores.specs.Sentences.{told_foreign}
 use Rattle.kc_cores.specs.Skips.{told_skips}
 use Rattle.kc_cores.specs.declared.listing.Listing.{Listing}
 use Rattle.kc_cores.specs.declared.request.Task.{Task}
@@ -34,14 +36,15 @@ labels-size called ids g size = length-labels_of called ids ∙ sym size
 
 -- the lines of these labels are an answer, where these are the labels of the graph
 answer-of : (query : Query) (ids core summary : List ℕ) (called : Option (List (List ℕ))) (g : SimpleGraph) (skipped : SkippedLines)
-    (known : Option (List ℕ)) (listing : Listing) (labels : List Label) → labels ≡ labels_of called ids
-    → IsNamedGraphOf query.graph.dialect known ids called g skipped → AreCoreNumbers g core
+    (what : Option Foreign) (known : Option (List ℕ)) (listing : Listing) (labels : List Label) → labels ≡ labels_of called ids
+    → IsNamedGraphOf query.graph.dialect known ids called g skipped what → AreCoreNumbers g core
     → AreLinesFor query.format query.task (labels_of called ids) g core (listing_lines query.format listing (labels_of called ids) core)
-    → summary ≡ told_skips query.graph.file skipped.count skipped.first.items ++ summary_line g core
+    → summary ≡ told_foreign query.graph.file what ++ (told_skips query.graph.file skipped.count skipped.first.items ++ summary_line g core)
     → IsAnswerTo (Asks query) known (listing_lines query.format listing labels core) summary
-answer-of query ids core summary called g skipped known listing labels same named numbers lines sums =
+answer-of query ids core summary called g skipped what known listing labels same named numbers lines sums =
     subst (λ (ls : List Label). IsAnswerTo (Asks query) known (listing_lines query.format listing ls core) summary) (sym same)
-    (IsAnswerTo-graph query ids core (listing_lines query.format listing (labels_of called ids) core) summary called g skipped known named numbers lines sums)
+    (IsAnswerTo-graph query ids core (listing_lines query.format listing (labels_of called ids) core) summary called g skipped what known
+    named numbers lines sums)
 
 pub returns-clause-ready : goal.returns-clause-ready
 returns-clause-ready g c =
@@ -69,7 +72,8 @@ returns-clause-answer g c =
     (labels-size found.names ids graph size) c.deref-2.ensures.value in
     let skips : List ℕ =
     told_skips (query_of c.args.request).graph.file found.skipped.count found.skipped.first.items in
-    let sums : string_bytes c.in_ok-told.told ≡ skips ++ summary_line graph core =
-    c.in_ok-told.ensures ∙ ap (λ (k : List ℕ). skips ++ summary_line graph k) c.deref.ensures.value in
-    answer-of (query_of c.args.request) ids core (string_bytes c.in_ok-told.told) found.names graph found.skipped _ c.in_ok-listing.listing
+    let remark : List ℕ = told_foreign (query_of c.args.request).graph.file found.what in
+    let sums : string_bytes c.in_ok-told.told ≡ remark ++ (skips ++ summary_line graph core) =
+    c.in_ok-told.ensures ∙ ap (λ (k : List ℕ). remark ++ (skips ++ summary_line graph k)) c.deref.ensures.value in
+    answer-of (query_of c.args.request) ids core (string_bytes c.in_ok-told.told) found.names graph found.skipped found.what _ c.in_ok-listing.listing
     c.new-labels.result c.new-labels.ensures c.in_ok-ids.ensures.graph numbers lines sums

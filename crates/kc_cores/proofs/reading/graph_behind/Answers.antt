@@ -1,7 +1,8 @@
 -- The graph is that of what was read.
-use Rattle.std.proofs.Common.{None}
+use Rattle.std.proofs.Common.{◌∙◌, None}
 use Rattle.std.proofs.lemmas.Result.{err_from_is_err_and}
 use Rattle.kc_cores.proofs.Graphs.{IsNamedGraphOf-read}
+use Rattle.kc_cores.proofs.Looked.{IsForeignBy-looked}
 use Rattle.kc_cores.proofs.reading.graph_behind.Goals as goal
 
 pub graph_of-requires : goal.graph_of-requires
@@ -15,5 +16,7 @@ returns-in_err-found-clause-stopped g c =
 pub returns-clause-graph : goal.returns-clause-graph
 returns-clause-graph g c = λ known looked.
     IsNamedGraphOf-read c.args.text.dialect known c.in_ok-graph_of.field-0.ids.items c.in_ok-graph_of.field-0.names c.in_ok-found.found
-    c.in_ok-graph_of.field-0.graph c.in_ok-graph_of.field-0.skipped (c.in_ok-found.ensures.edges known looked) c.in_ok-graph_of.ensures.ids
-    c.in_ok-graph_of.ensures.names c.in_ok-graph_of.ensures.graph c.in_ok-graph_of.ensures.skipped
+    c.in_ok-graph_of.field-0.graph c.in_ok-graph_of.field-0.skipped c.in_ok-graph_of.field-0.what (c.in_ok-found.ensures.edges known looked)
+    c.in_ok-graph_of.ensures.ids c.in_ok-graph_of.ensures.names c.in_ok-graph_of.ensures.graph c.in_ok-graph_of.ensures.skipped
+    (IsForeignBy-looked c.args.text.dialect known _ c.args.head.now c.in_ok-graph_of.field-0.what looked
+    (c.in_ok-graph_of.ensures.what ∙ c.foreign-what.ensures))
