@@ -18,7 +18,7 @@ import tempfile
 TOP = pathlib.Path(__file__).resolve().parent.parent
 CRATE = "doc_examples"
 LIBRARIES = (
-    "kc_io kc_files kc_wire kc_lists kc_graph kc_flat kc_cert kc_tally kc_shard kc_hindex kc_text kc_read kc_words kc_table kc_order kc_topo kc_view"
+    "kc_io kc_files kc_wire kc_lists kc_graph kc_flat kc_cert kc_tally kc_shard kc_hindex kc_text kc_dialect kc_names kc_read kc_words kc_table kc_order kc_topo kc_view"
     " kc_journal kc_batch_effects kc_shared kc_workers kc_batch kc_run kc_snapshot kc_published kc_keeper kc_keeper_workers kc_top kc_claims kc_cores"
 )
 IMPORTS = ["std::alloc::Global", "std::process::Abort", "std::sync::Wait", "std::test::Fail", "std::thread::Threads"]

@@ -37,6 +37,11 @@ fn texts_that_are_no_edge_lists(rt: HostRuntime) -> Result<(), Fail> {
         foreign_in(b"%%MatrixMarket matrix\n3 3 1\n"),
         Some(Foreign::Marked(Signature::MatrixMarket))
     );
+    assert_eq!(rt;
+        foreign_in(b"{\"source\":1,\"target\":2}\n"),
+        Some(Foreign::Json)
+    );
+    assert_eq!(rt; foreign_in(b"{1 2}\n"), None);
     assert_eq!(rt; foreign_in(b"1 2\r2 3\r"), Some(Foreign::BareReturns));
     assert_eq!(rt; foreign_in(b"# none\r1 2"), Some(Foreign::BareReturns));
     assert_eq!(rt; foreign_in(b"1 2\r"), None);
