@@ -220,15 +220,15 @@ fn read_by_eight<J: BoardName + Send + Sync, R: Threads + Wait + Abort + Sync>(
     let first = list_of(0);
     let (publisher, readers) = open::<J, &R>(rt, alloc, blank, &first, 8)?;
     let mut watchers = watchers(alloc, readers, &first)?;
-    let (published, ()) = thread::join(
+    let ((), published) = thread::join(
         rt,
-        || publish_all(rt, publisher),
         || thread::for_each_mut(
             rt,
             watchers.as_mut_slice(),
             8,
             &|_, watcher| watcher.watch(rt),
         ),
+        || publish_all(rt, publisher),
     );
     let publisher = published?;
     assert!(rt; watchers.iter().all(|watcher| watcher.right));
