@@ -26,7 +26,7 @@ use Rattle.kc_tally.proofs.Sorting.{Ascends, order_below, Ascends-pairs, Ascends
 use Rattle.kc_tally.proofs.EdgeCounts.{count-adjacent, leads-few}
 
 -- the numbers of an order of the vertices are vertices
-order-within : (n : ℕ) (order : List ℕ) (w : ℕ) → Enumerates n order → member w order ≡ true → w < n
+pub order-within : (n : ℕ) (order : List ℕ) (w : ℕ) → Enumerates n order → member w order ≡ true → w < n
 order-within n order w e m = All-contains (λ x. x < n) order w e.below (Contains-from_member order w m)
 
 -- what stands at a place from `k` on is left when the first `k` are dropped

@@ -1,20 +1,16 @@
 -- The order of vertices by their keys is strict and total.
 use Rattle.std.proofs.Common.{◌≡◌, ◌≢◌, ◌≤◌, ◌<◌, ℕ, Bool, true, false, ◌&&◌, ◌||◌, List, get_or, eqb, ltb, sym, ◌∙◌, ◌⊎◌, inl, inr, arith}
-use Rattle.std.proofs.Common.{ltb-true, lt-ltb, eqb-true, eq-eqb, le-leb}
+use Rattle.std.proofs.Common.{leb, ltb-true, lt-ltb, eqb-true, eq-eqb, le-leb}
 use Rattle.std.proofs.lemmas.Bool.{or_cases, or_left, or_right, and_parts, and_from, cases_order, false_from_ne_true}
-use Rattle.kc_tally.specs.Keys.{has_lesser_key}
+use Rattle.kc_tally.specs.Keys.{comes_before, has_lesser_key, stands_before}
 use Rattle.kc_tally.specs.Layers.{is_left_at}
 
--- whether three numbers come before three others: the first that differ decide
-abbrev less : ℕ → ℕ → ℕ → ℕ → ℕ → ℕ → Bool
-less a b r s v w = ltb a b || (eqb a b && (ltb r s || (eqb r s && ltb v w)))
-
--- when they do
-abbrev Less : ℕ → ℕ → ℕ → ℕ → ℕ → ℕ → Type 0
+-- when three numbers come before three others: the first that differ decide
+abbrev pub Less : ℕ → ℕ → ℕ → ℕ → ℕ → ℕ → Type 0
 Less a b r s v w = (a < b) ⊎ ((a ≡ b) × ((r < s) ⊎ ((r ≡ s) × (v < w))))
 
 -- where the test says so, they do
-less-true : (a b r s v w : ℕ) → less a b r s v w ≡ true → Less a b r s v w
+less-true : (a b r s v w : ℕ) → comes_before a b r s v w ≡ true → Less a b r s v w
 less-true a b r s v w h = elim (or_cases (ltb a b) _ h) [
   | inl l ↦ inl (ltb-true a b l)
   | inr k ↦
@@ -29,7 +25,7 @@ less-true a b r s v w h = elim (or_cases (ltb a b) _ h) [
 ]
 
 -- where they do, the test says so
-less-from : (a b r s v w : ℕ) → Less a b r s v w → less a b r s v w ≡ true
+less-from : (a b r s v w : ℕ) → Less a b r s v w → comes_before a b r s v w ≡ true
 less-from a b r s v w h = elim h [
   | inl l ↦ or_left (ltb a b) _ (lt-ltb a b l)
   | inr p ↦ or_right (ltb a b) _ (and_from _ _ (eq-eqb a b p.0) (elim p.1 [
@@ -65,6 +61,13 @@ Less-total a b r s v w ne = elim (cases_order a b) [
     | inr o ↦ elim o [ inl l ↦ inl (inr (e, inl l)) | inr l ↦ inr (inr (sym e, inl l)) ]
   ]
   | inr o ↦ elim o [ inl l ↦ inl (inl l) | inr l ↦ inr (inl l) ]
+]
+
+-- who comes behind has the greater first number, or the same and no lesser second one
+less-left : (a b r s v w : ℕ) → Less a b r s v w → (ltb a b || (eqb a b && leb r s)) ≡ true
+less-left a b r s v w h = elim h [
+  | inl l ↦ or_left (ltb a b) _ (lt-ltb a b l)
+  | inr p ↦ or_right (ltb a b) _ (and_from _ _ (eq-eqb a b p.0) (le-leb r s (elim p.1 [ inl l ↦ omega arith | inr q ↦ omega (arith, q.0) ])))
 ]
 
 -- nothing comes before itself
@@ -112,8 +115,43 @@ module _ (core rank : List ℕ) where
 
   -- who has the greater key is left at the step in which the other is taken
   pub has_lesser_key-left : (v w : ℕ) → has_lesser_key core rank v w ≡ true → is_left_at core rank (get_or core v 0) (get_or rank v 0) w ≡ true
-  has_lesser_key-left v w h = elim (has_lesser_key-true v w h) [
-    | inl l ↦ or_left (ltb (get_or core v 0) (get_or core w 0)) _ (lt-ltb _ _ l)
-    | inr p ↦ or_right (ltb (get_or core v 0) (get_or core w 0)) _
-        (and_from _ _ (eq-eqb _ _ p.0) (le-leb _ _ (elim p.1 [ inl l ↦ omega arith | inr q ↦ omega (arith, q.0) ])))
-  ]
+  has_lesser_key-left v w h = less-left (get_or core v 0) (get_or core w 0) (get_or rank v 0) (get_or rank w 0) v w (has_lesser_key-true v w h)
+
+  module _ (names : List ℕ) where
+    -- when `v` stands before `w`
+    abbrev Stands : ℕ → ℕ → Type 0
+    Stands v w = Less (get_or core v 0) (get_or core w 0) (get_or rank v 0) (get_or rank w 0) (get_or names v 0) (get_or names w 0)
+
+    stands_before-true : (v w : ℕ) → stands_before core rank names v w ≡ true → Stands v w
+    stands_before-true v w h =
+        less-true (get_or core v 0) (get_or core w 0) (get_or rank v 0) (get_or rank w 0) (get_or names v 0) (get_or names w 0) h
+
+    stands_before-from : (v w : ℕ) → Stands v w → stands_before core rank names v w ≡ true
+    stands_before-from v w h =
+        less-from (get_or core v 0) (get_or core w 0) (get_or rank v 0) (get_or rank w 0) (get_or names v 0) (get_or names w 0) h
+
+    -- who stands behind is left at the step in which the one before is taken
+    pub stands_before-left : (v w : ℕ) → stands_before core rank names v w ≡ true
+        → is_left_at core rank (get_or core v 0) (get_or rank v 0) w ≡ true
+    stands_before-left v w h =
+        less-left (get_or core v 0) (get_or core w 0) (get_or rank v 0) (get_or rank w 0) (get_or names v 0) (get_or names w 0) (stands_before-true v w h)
+
+    -- the order by core number, rank and name is compared in steps
+    pub stands_before-trans : (u v w : ℕ) → stands_before core rank names u v ≡ true → stands_before core rank names v w ≡ true
+        → stands_before core rank names u w ≡ true
+    stands_before-trans u v w h k = stands_before-from u w
+        (Less-trans (get_or core u 0) (get_or core v 0) (get_or core w 0) (get_or rank u 0) (get_or rank v 0) (get_or rank w 0) (get_or names u 0)
+        (get_or names v 0) (get_or names w 0) (stands_before-true u v h) (stands_before-true v w k))
+
+    -- of two vertices with different names one stands before the other
+    pub stands_before-total : (v w : ℕ) → get_or names v 0 ≢ get_or names w 0
+        → (stands_before core rank names v w ≡ true) ⊎ (stands_before core rank names w v ≡ true)
+    stands_before-total v w ne =
+        let either : Stands v w ⊎ Stands w v =
+        Less-total (get_or core v 0) (get_or core w 0) (get_or rank v 0) (get_or rank w 0) (get_or names v 0) (get_or names w 0) ne in
+        elim either [ inl h ↦ inl (stands_before-from v w h) | inr h ↦ inr (stands_before-from w v h) ]
+
+    -- and not both
+    pub stands_before-once : (v w : ℕ) → stands_before core rank names v w ≡ true → stands_before core rank names w v ≡ false
+    stands_before-once v w h = false_from_ne_true _ (λ k.
+        Less-self (get_or core v 0) (get_or rank v 0) (get_or names v 0) (stands_before-true v v (stands_before-trans v w v h k)))

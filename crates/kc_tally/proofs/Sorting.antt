@@ -64,38 +64,40 @@ module _ (before : ℕ → ℕ → Bool) where
     )
   ]
 
-  module _ (trans : (u v w : ℕ) → before u v ≡ true → before v w ≡ true → before u w ≡ true)
-      (total : (v w : ℕ) → v ≢ w → (before v w ≡ true) ⊎ (before w v ≡ true)) where
+  module _ (n : ℕ) (trans : (u v w : ℕ) → before u v ≡ true → before v w ≡ true → before u w ≡ true)
+      (total : (v w : ℕ) → v < n → w < n → v ≢ w → (before v w ≡ true) ⊎ (before w v ≡ true)) where
     -- a list in order stays in order with a number put in
-    Ascends-put : (x : ℕ) (ys : List ℕ) → Ascends ys → member x ys ≡ false → Ascends (put x ys)
-    Ascends-put x [] a m = (λ y k. absurd (false≢true k), tt)
-    Ascends-put x (y ∷ ys) a m = elim (before x y) as (λ b. before x y ≡ b → Ascends (cond b (x ∷ y ∷ ys) (y ∷ put x ys))) [
+    Ascends-put : (x : ℕ) (ys : List ℕ) → x < n → ((y : ℕ) → member y ys ≡ true → y < n) → Ascends ys → member x ys ≡ false → Ascends (put x ys)
+    Ascends-put x [] lx ls a m = (λ y k. absurd (false≢true k), tt)
+    Ascends-put x (y ∷ ys) lx ls a m = elim (before x y) as (λ b. before x y ≡ b → Ascends (cond b (x ∷ y ∷ ys) (y ∷ put x ys))) [
       | true ↦ λ t. (λ z k. elim (member-cases z y ys k) [ inl e ↦ ap (before x) e ∙ t | inr l ↦ trans x y z t (a.0 z l) ], a)
       | false ↦ λ f.
           let ne : x ≢ y = λ e. true≢false (sym (or_left (eqb x y) (member x ys) (eq-eqb x y e)) ∙ m) in
-          let up : before y x ≡ true = elim (total x y ne) [ inl t ↦ absurd (true≢false (sym t ∙ f)) | inr t ↦ t ] in (
+          let ly : y < n = ls y (or_left (eqb y y) (member y ys) (eq-eqb y y refl)) in
+          let up : before y x ≡ true = elim (total x y lx ly ne) [ inl t ↦ absurd (true≢false (sym t ∙ f)) | inr t ↦ t ] in (
             λ z k. elim (member-put z x ys k) [ inl e ↦ ap (before y) e ∙ up | inr l ↦ a.0 z l ],
-            Ascends-put x ys a.1 (false_from_ne_true (member x ys) (λ k. true≢false (sym (member-tail x y ys k) ∙ m))),
+            Ascends-put x ys lx (λ z k. ls z (member-tail z y ys k)) a.1 (false_from_ne_true (member x ys) (λ k. true≢false (sym (member-tail x y ys k) ∙ m))),
           )
     ] refl
 
     -- a list without doubles, put in order, is in order and has no doubles, and the same numbers
-    sorted-right : (xs : List ℕ) → Distinct xs → Ascends (sorted xs) × Distinct (sorted xs) × ((z : ℕ) → member z (sorted xs) ≡ true → member z xs ≡ true)
+    sorted-right : (xs : List ℕ) → ((x : ℕ) → member x xs ≡ true → x < n) → Distinct xs
+        → Ascends (sorted xs) × Distinct (sorted xs) × ((z : ℕ) → member z (sorted xs) ≡ true → member z xs ≡ true)
         × ((z : ℕ) → member z xs ≡ true → member z (sorted xs) ≡ true)
-    sorted-right [] d = (tt, tt, λ z m. m, λ z m. m)
-    sorted-right (x ∷ xs) d =
-        let r = sorted-right xs d.1 in
+    sorted-right [] ls d = (tt, tt, λ z m. m, λ z m. m)
+    sorted-right (x ∷ xs) ls d =
+        let r = sorted-right xs (λ y k. ls y (member-tail y x xs k)) d.1 in
         let new' : member x (sorted xs) ≡ false = false_from_ne_true (member x (sorted xs)) (λ m. true≢false (sym (r.2 x m) ∙ d.0)) in (
-          Ascends-put x (sorted xs) r.0 new',
+          Ascends-put x (sorted xs) (ls x (or_left (eqb x x) (member x xs) (eq-eqb x x refl))) (λ y k. ls y (member-tail y x xs (r.2 y k))) r.0 new',
           Distinct-put x (sorted xs) r.1 new',
           λ z m. elim (member-put z x (sorted xs) m) [ inl e ↦ or_left (eqb z x) _ (eq-eqb z x e) | inr k ↦ member-tail z x xs (r.2 z k) ],
           λ z m. elim (member-cases z x xs m) [ inl e ↦ put-member z x (sorted xs) (inl e) | inr k ↦ put-member z x (sorted xs) (inr (r.3 z k)) ],
         )
 
-    -- the numbers below a bound can be put in order
-    pub order_below : (n : ℕ) → (order : List ℕ) × Enumerates n order × Ascends order
-    order_below n =
-        let r = sorted-right (below n) (Distinct-below n) in (
+    -- the numbers below a bound can be put in an order that is total on them
+    pub order_within : (order : List ℕ) × Enumerates n order × Ascends order
+    order_within =
+        let r = sorted-right (below n) (λ x m. below-member x n m) (Distinct-below n) in (
           sorted (below n),
           record {
             below = λ k d l. below-member _ n (r.2 _ (member-get_or (sorted (below n)) k d l));
@@ -104,6 +106,11 @@ module _ (before : ℕ → ℕ → Bool) where
           },
           r.0,
         )
+
+  -- the numbers below a bound can be put in a total order
+  pub order_below : ((u v w : ℕ) → before u v ≡ true → before v w ≡ true → before u w ≡ true)
+      → ((v w : ℕ) → v ≢ w → (before v w ≡ true) ⊎ (before w v ≡ true)) → (n : ℕ) → (order : List ℕ) × Enumerates n order × Ascends order
+  order_below trans total n = order_within n trans (λ v w _ _ ne. total v w ne)
 
   -- of two places in a list in order, what stands at the first comes before what stands at the second
   pub Ascends-pairs : (xs : List ℕ) → Ascends xs → AllPairs (λ v w. before v w ≡ true) xs

@@ -46,7 +46,7 @@ pub record Ranks (layer : List ℕ) (step : ℕ) (old new : List ℕ) : Type 0 w
   pub others : (v : ℕ) → member v layer ≡ false → at new v ≡ at old v
 
 -- where one passes the second test and not the first, and all that pass the first pass the second, fewer pass the first
-count-fewer : (p q : ℕ → Bool) (x : ℕ) (xs : List ℕ) → Distinct xs → member x xs ≡ true → p x ≡ false → q x ≡ true
+pub count-fewer : (p q : ℕ → Bool) (x : ℕ) (xs : List ℕ) → Distinct xs → member x xs ≡ true → p x ≡ false → q x ≡ true
     → ((y : ℕ) → member y xs ≡ true → p y ≡ true → q y ≡ true) → count_by p xs < count_by q xs
 count-fewer p q x xs d m px qx h =
     let r : ℕ → Bool = λ y. q y && not (eqb y x) in
@@ -322,20 +322,20 @@ least p k t = elim (first_up_to k) [ inl f ↦ (f.0, f.1, f.2, f.3) | inr none �
     ]
   ]
 
--- Where a step takes nothing, nothing is left: the first of those that are left, in an order that certifies, would have few left.
-none_left : (g : SimpleGraph) (core : List ℕ) (step : ℕ) (left rank : List ℕ) → AreCoreNumbers g core → Layered g core step left rank [] → (v : ℕ)
-    → v < g.size → at rank v ≤ step
-none_left g core step left rank right h v l = elim (cases_lt step (at rank v)) [
-  | inr le ↦ le
-  | inl up ↦
+-- Where all that are left at a step have too many neighbours left, none is left: the first of them, in an order that certifies, would have few.
+pub none_waits : (g : SimpleGraph) (core : List ℕ) (step : ℕ) (rank : List ℕ) → AreCoreNumbers g core
+    → ((w : ℕ) → w < g.size → step ≤ at rank w → at core w < left_at g core rank step w) → (v : ℕ) → v < g.size → at rank v < step
+none_waits g core step rank right many v l = elim (cases_lt (at rank v) step) [
+  | inl lt ↦ lt
+  | inr up ↦
       let (other, order, c') = certificate_exists g in
       let c : Certifies g core order =
       subst (λ (numbers : List ℕ). Certifies g numbers order) (core-unique g other core (certified-core_numbers g other order c') right) c' in
       let place : (w : ℕ) → w < g.size → (j : ℕ) × (j < length order) × (get_or order j 0 ≡ w) = λ w lw.
       let (j, lj, at-j) = c.enumerates.complete w lw in (j, lj, get_or-any order j 0 w lj ∙ at-j) in
-      let waits : ℕ → Bool = λ i. ltb step (at rank (get_or order i 0)) in
+      let waits : ℕ → Bool = λ i. leb step (at rank (get_or order i 0)) in
       let (k, lk, at-k) = place v l in
-      let (i, le, first, before) = least waits k (ap (λ w. ltb step (at rank w)) at-k ∙ lt-ltb step (at rank v) up) in
+      let (i, le, first, before) = least waits k (ap (λ w. leb step (at rank w)) at-k ∙ le-leb step (at rank v) up) in
       let x : ℕ = get_or order i 0 in
       let lx : x < g.size = c.enumerates.below i 0 (omega (arith, le, lk)) in
       let rest : List ℕ = drop (i + 1) order in
@@ -350,22 +350,26 @@ none_left g core step left rank right h v l = elim (cases_lt step (at rank v)) [
           | inl above ↦
               absurd (omega (arith, ltb-true (at core x) (at core w) above, c.rising j i 0 gt (omega (arith, le, lk)), ap (at core) at-j))
           | inr beside ↦
-              let late : step ≤ at rank w = leb-true step (at rank w) (and_parts (eqb (at core x) (at core w)) (leb step (at rank w)) beside).1 in
-              let soon : at rank w ≤ step = elim (cases_lt step (at rank w)) [
-                | inl lt ↦ absurd (true≢false (sym (ap (λ u. ltb step (at rank u)) at-j ∙ lt-ltb step (at rank w) lt) ∙ before j gt))
-                | inr le' ↦ le'
-              ] in
-              absurd (false≢true (h.all_here w (below-member w g.size m) (omega (arith, late, soon))))
+              absurd (true≢false (sym (and_parts (eqb (at core x) (at core w)) (leb step (at rank w)) beside).1
+              ∙ (ap (λ u. leb step (at rank u)) (sym at-j) ∙ before j gt)))
         ]
       ] in
       subst (λ (n : ℕ). member n rest ≡ true) at-j (member-drop_at (i + 1) j order (omega (arith, behind)) lj) in
       let among : left_at g core rank step x ≤ count_by stays rest = count-le stays (below g.size) rest (Distinct-below g.size) later in
       let fewer : count_by stays rest ≤ degree_among g rest x =
       count-mono stays (adjacent g x) rest (λ w _ s. (and_parts (adjacent g x w) (is_left_at core rank (at core x) step w) s).0) in
-      absurd
-      (omega
-      (arith, c.few_later i (omega (arith, le, lk)), among, fewer, h.high x lx (ltb-true step (at rank x) first), h.counted x lx))
+      absurd (omega (arith, c.few_later i (omega (arith, le, lk)), among, fewer, many x lx (leb-true step (at rank x) first)))
 ]
+
+-- So where a step takes nothing, nothing is left.
+none_left : (g : SimpleGraph) (core : List ℕ) (step : ℕ) (left rank : List ℕ) → AreCoreNumbers g core → Layered g core step left rank [] → (v : ℕ)
+    → v < g.size → at rank v ≤ step
+none_left g core step left rank right h v l = omega (arith, none_waits g core step rank right many v l) where
+  many : (w : ℕ) → w < g.size → step ≤ at rank w → at core w < left_at g core rank step w
+  many w lw up = elim (cases_lt step (at rank w)) [
+    | inl lt ↦ omega (arith, h.high w lw lt, h.counted w lw)
+    | inr le ↦ absurd (false≢true (h.all_here w lw (omega (arith, up, le))))
+  ]
 
 -- once a step takes nothing, all ranks are known
 pub layered_all : (g : SimpleGraph) (core : List ℕ) (step : ℕ) (left rank : List ℕ) → AreCoreNumbers g core → Layered g core step left rank []

@@ -20,7 +20,7 @@ leb-same s a b e = elim (cases_lt a s) [
 
 module _ (g : SimpleGraph) (core : List ℕ) where
   -- ranks that are the same up to a step leave the same at it
-  left_at-agree : (first second : List ℕ) (s v : ℕ) → ((w : ℕ) → w < g.size → min (at first w) s ≡ min (at second w) s)
+  pub left_at-agree : (first second : List ℕ) (s v : ℕ) → ((w : ℕ) → w < g.size → min (at first w) s ≡ min (at second w) s)
       → left_at g core first s v ≡ left_at g core second s v
   left_at-agree first second s v same =
       count-agree (λ w. adjacent g v w && is_left_at core first (at core v) s w) (λ w. adjacent g v w && is_left_at core second (at core v) s w) (below g.size)

@@ -20,13 +20,16 @@ mod layering;
 
 ghost use Rattle.std.specs.Prelude.{◌≡◌, ◌≤◌, ◌<◌, ◌+◌, ◌^◌, ◌++◌, ℕ, true, List, [], Option, None, Some, All, AllPairs, length, slice_index, slice_index_or};
 ghost use Rattle.std.specs.List.{sum_by};
+ghost use Rattle.kc_lists.specs.Lists.{Distinct};
 ghost use Rattle.kc_graph.specs.Bulk.{graph_with};
+ghost use Rattle.kc_graph.specs.Certificate.{Certifies, Enumerates};
 ghost use Rattle.kc_graph.specs.Core.{AreCoreNumbers};
 ghost use Rattle.kc_graph.specs.SimpleGraph.{SimpleGraph};
 ghost use Rattle.kc_graph.specs.declared.bulk.Edge.{Edge};
 ghost use Rattle.kc_tally.specs.Lists.{ListsEachOnce, AreDisjoint, first_fault, last_edge, is_up_to, edges_of_pieces};
 ghost use Rattle.kc_tally.specs.Tallies.{AreBetween, AreTallied, capped, later_count, supporter_count};
-ghost use Rattle.kc_tally.specs.Layers.{AreLayers, left_at};
+ghost use Rattle.kc_tally.specs.Keys.{stands_before};
+ghost use Rattle.kc_tally.specs.Layers.{AreLayers, is_left_at, left_at};
 
 pub use agreement::verdict;
 pub use counting::{add, count};
@@ -102,4 +105,18 @@ pub fn rounds_as_ranks_agree()
 /// Core numbers have one list of ranks that are layers, and no more.
 pub fn layers_are_unique()
     ensures { (g : SimpleGraph) (core first second : List ℕ) → AreLayers g core first → AreLayers g core second → first ≡ second }
+{}
+
+/// Core numbers have a list of ranks that are layers.
+pub fn core_numbers_have_layers()
+    ensures { (g : SimpleGraph) (core : List ℕ) → AreCoreNumbers g core → (rank : List ℕ) × AreLayers g core rank }
+{}
+
+/// An order of the vertices by core number, and by layer within each level, certifies the core numbers, whoever of one layer stands first.
+/// There is such an order in which names decide between those of one layer, where each vertex has a name of its own.
+pub fn orders_by_layers_certify()
+    ensures any { (g : SimpleGraph) (core rank order : List ℕ) → AreCoreNumbers g core → AreLayers g core rank → Enumerates g.size order
+        → AllPairs (λ v w. is_left_at core rank (slice_index core v) (slice_index rank v) w ≡ true) order → Certifies g core order }
+    ensures named { (g : SimpleGraph) (core rank names : List ℕ) → AreCoreNumbers g core → AreLayers g core rank → Distinct names
+        → length names ≡ g.size → (order : List ℕ) × Certifies g core order × AllPairs (λ v w. stands_before core rank names v w ≡ true) order }
 {}
