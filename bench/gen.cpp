@@ -1,6 +1,7 @@
 // Synthetic graphs and update batches in kcore's input format. Whole numbers only, so a seed gives the same bytes everywhere.
 // build: g++ -O2 -std=c++17 gen.cpp -o gen
-// usage: gen GRAPH... -- UPDATES... > file      (UPDATES may be left out)
+// usage: gen GRAPH... -- UPDATES... > file      (UPDATES may be left out; what is beyond the limits of kcore is written where the
+//        environment has GEN_ANY_SIZE)
 //  GRAPH:   er N M SEED | ba N K SEED | rmat SCALE M SEED | grid W H SEED | path N | clique N | star N | empty
 //           lines N M SEED        N ids, M edge lines with repeats and loops, as raw SNAP files have them
 //           file PATH             the edge lines of a file (its batches are left out)
@@ -81,5 +82,5 @@ int main(int c, char** v) {
   else if (kind == "ladder") { for (u64 b = 0; b < B; b++) { batch(); u64 i = b % (2 * (u64)(n - 2)); if (i < n - 2) up('+', i, i + 2); else up('-', 2 * (u64)(n - 2) - 1 - i, 2 * (u64)(n - 2) + 1 - i); } }
   else if (!kind.empty()) { fputs("unknown updates\n", stderr); return 2; }
   fprintf(stderr, "n=%u edges=%zu batches=%llu updates=%llu bytes=%zu\n", n, start.size(), (unsigned long long)batches, (unsigned long long)updates, out.size());
-  if (out.size() > 67108864 || updates > 1048576 || batches > 4096) { fputs("beyond the input limits\n", stderr); return 3; }
+  if (!getenv("GEN_ANY_SIZE") && (out.size() > 67108864 || updates > 1048576 || batches > 4096)) { fputs("beyond the input limits of kcore; GEN_ANY_SIZE=1 writes it for others\n", stderr); return 3; }
   fwrite(out.data(), 1, out.size(), stdout); return 0; }
