@@ -47,7 +47,7 @@ LEFT_OUT = [
     (r"bench\.py", "measures, in minutes"),
     (r"email-Enron", "wants a graph from elsewhere"),
     (r"bench/limits\.py|bench/refused\.py", "takes minutes"),
-    (r"bench/plants\.py kc_|bench/refused_tests\.py|bench/no_cache\.sh", "needs rt, or what rt has built"),
+    (r"bench/plants\.py kc_|bench/refused_tests\.py|bench/no_cache\.sh|bench/narrow_widths\.sh", "needs rt, or what rt has built"),
     (r"examples/dask", "starts a cluster; python/tests/test_dask.py does so too"),
     (r"backend=\"kcore\"", "wants networkx 3.2 or later"),
 ]
