@@ -40,6 +40,10 @@ fn put_said(bytes: &[u8], out: &mut Vec<u8>) -> Result<bool, NoMemory>
 }
 
 impl Replier for Echo {
+    type Settings = ();
+
+    ghost settings = { λ _. tt };
+
     ghost reply = { λ _ bytes. said bytes };
 
     ghost reply_at_end = { λ _ bytes. said_at_end bytes };

@@ -39,6 +39,7 @@ fn answer_piece<W: Wire, R: Replier>(
     ensures fed_at_end { (fed : List ℕ) → R.was_fed replier.old fed → result ≡ Some DialogueEnd.Ended → R.was_fed replier.new (fed ++ piece.now) }
     ensures same { R.reply replier.new ≡ R.reply replier.old }
     ensures same_at_end { R.reply_at_end replier.new ≡ R.reply_at_end replier.old }
+    ensures settings { R.settings replier.new ≡ R.settings replier.old }
     ensures cause { W.faults wire.new ≡ faults_after_turn (W.faults wire.old) result }
 {
     out.clear();
@@ -64,6 +65,7 @@ fn answer_end<W: Wire, R: Replier>(
     ensures added { (text : List ℕ) × TellsMore (W.history wire.old) (W.history wire.new) (wrote text) × ((fed : List ℕ) → R.was_fed replier.old fed
         → HasAddedAtEnd (R.reply replier.old) (R.reply_at_end replier.old) fed text result) }
     ensures ended { (fed : List ℕ) → R.was_fed replier.old fed → result ≡ DialogueEnd.Done → R.has_ended replier.new fed }
+    ensures settings { R.settings replier.new ≡ R.settings replier.old }
     ensures cause { W.faults wire.new ≡ faults_at (W.faults wire.old) result }
 {
     out.clear();
@@ -91,6 +93,7 @@ fn answer_next<W: Wire, R: Replier>(
         (R.has_ended replier.new) (W.history wire.old) (W.history wire.new) result }
     ensures same { result ≡ None → R.reply replier.new ≡ R.reply replier.old }
     ensures same_at_end { result ≡ None → R.reply_at_end replier.new ≡ R.reply_at_end replier.old }
+    ensures settings { R.settings replier.new ≡ R.settings replier.old }
     ensures cause { W.faults wire.new ≡ faults_after_turn (W.faults wire.old) result }
 {
     match wire.read(room) {
@@ -115,6 +118,7 @@ fn answer_turns<W: Wire, R: Replier>(
         × HasAnswered (R.reply replier.old) (R.reply_at_end replier.old) events result
         × (result ≡ DialogueEnd.Ended → R.was_fed replier.new (read_in events))
         × (result ≡ DialogueEnd.Done → R.has_ended replier.new (read_in events)) }
+    ensures settings { R.settings replier.new ≡ R.settings replier.old }
     ensures cause { W.faults wire.new ≡ faults_at (W.faults wire.old) result }
 {
     'turns: for _ in 0..u64::MAX {
@@ -131,7 +135,7 @@ fn answer_turns<W: Wire, R: Replier>(
 ///
 /// At every moment at which more input is asked for, just the reply to the bytes read so far was written. What was written at the end
 /// [`DialogueEnd`] says of each. A fault ends it only where that call of the wire has failed; at each other end none has. `NoMemory` comes
-/// only where there was no memory. At `Ended` the replier was fed all that was read, and at `Done` it was told the end of that too.
+/// only where there was no memory. At `Ended` the replier was fed all that was read, and at `Done` it was told the end of that too. It is set up as before.
 pub fn answer_wire<W: Wire, R: Replier>(alloc: Global, wire: &mut W, replier: &mut R) -> DialogueEnd
     requires fed { R.was_fed replier.old [] }
     requires silent { R.reply replier.old [] ≡ [] }
@@ -139,6 +143,7 @@ pub fn answer_wire<W: Wire, R: Replier>(alloc: Global, wire: &mut W, replier: &m
         × HasAnswered (R.reply replier.old) (R.reply_at_end replier.old) events result
         × (result ≡ DialogueEnd.Ended → R.was_fed replier.new (read_in events))
         × (result ≡ DialogueEnd.Done → R.has_ended replier.new (read_in events)) }
+    ensures settings { R.settings replier.new ≡ R.settings replier.old }
     ensures cause { W.faults wire.new ≡ faults_at (W.faults wire.old) result }
 {
     let mut out = Vec::new(alloc);

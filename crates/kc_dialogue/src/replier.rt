@@ -9,6 +9,12 @@ use std::alloc::Global;
 
 /// What answers bytes as they come.
 pub trait Replier {
+    /// How it is set up.
+    type Settings;
+
+    /// How it is set up, which no call changes.
+    ghost settings: { Self → Self.Settings };
+
     /// What has to be written once just these bytes were read, and there may be more.
     ghost reply: { Self → List ℕ → List ℕ };
 
@@ -34,7 +40,8 @@ pub trait Replier {
         ensures ended { IfOk result (λ flow. flow ≡ Flow.Ended → (fed : List ℕ) → was_fed self.old fed
             → StaysFrom (reply self.old) (reply_at_end self.old) (fed ++ piece.now)) }
         ensures same { reply self.new ≡ reply self.old }
-        ensures same_at_end { reply_at_end self.new ≡ reply_at_end self.old };
+        ensures same_at_end { reply_at_end self.new ≡ reply_at_end self.old }
+        ensures settings { settings self.new ≡ settings self.old };
 
     /// The input has ended: puts what that adds to the reply behind `out`.
     ///
@@ -44,5 +51,6 @@ pub trait Replier {
         ensures ended { OnOk result ((fed : List ℕ) → was_fed self.old fed → has_ended self.new fed) }
         ensures put { (put : List ℕ) × (out.new.items ≡ out.old.items ++ put) × ((fed : List ℕ) → was_fed self.old fed
             → OnOk result (reply_at_end self.old fed ≡ reply self.old fed ++ put)
-            × OnErr result (IsPrefixOf (reply_at_end self.old fed) (reply self.old fed ++ put))) };
+            × OnErr result (IsPrefixOf (reply_at_end self.old fed) (reply self.old fed ++ put))) }
+        ensures settings { settings self.new ≡ settings self.old };
 }

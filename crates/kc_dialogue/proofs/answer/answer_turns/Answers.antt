@@ -20,6 +20,7 @@ turns-init g c = record {
   );
   same = refl;
   same_at_end = refl;
+  settings = refl;
   faultless = refl;
   room = c.requires.room;
 }
@@ -46,6 +47,7 @@ turns-preserved g c =
           c.in-None.ensures.turned;
       same = c.in-None.ensures.same refl ∙ c.turns.invariant.same;
       same_at_end = c.in-None.ensures.same_at_end refl ∙ c.turns.invariant.same_at_end;
+      settings = c.in-None.ensures.settings ∙ c.turns.invariant.settings;
       faultless = c.in-None.ensures.cause ∙ c.turns.invariant.faultless;
       room = omega (arith, c.answer_next.auto.room, c.turns.invariant.room);
     }

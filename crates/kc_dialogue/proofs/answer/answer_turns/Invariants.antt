@@ -11,6 +11,7 @@ invariant-turns g l = record {
       × IsGoing (g.R.Replier.reply l.fn.replier) (g.R.Replier.was_fed l.replier) events × (reads_in events ≡ l.counter);
   same : g.R.Replier.reply l.replier ≡ g.R.Replier.reply l.fn.replier;
   same_at_end : g.R.Replier.reply_at_end l.replier ≡ g.R.Replier.reply_at_end l.fn.replier;
+  settings : g.R.Replier.settings l.replier ≡ g.R.Replier.settings l.fn.replier;
   faultless : g.W.Wire.faults l.wire ≡ g.W.Wire.faults l.fn.wire;
   room : 0 < length l.room;
 }
