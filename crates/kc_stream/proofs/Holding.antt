@@ -1,10 +1,13 @@
 -- What is gathered, with one line more.
 use Rattle.std.proofs.Common.{◌≡◌, ◌≢◌, ◌≤◌, ◌<◌, ℕ, Bool, true, false, cond, List, [], ◌∷◌, ◌++◌, length, map, refl, sym, ap, ap₂, ◌∙◌, subst, arith}
-use Rattle.std.proofs.Common.{nat_eq, lt-ltb, le-ltb, eq-eqb, inl, inr, Option, Some, None}
+use Rattle.std.proofs.Common.{nat_eq, lt-ltb, le-ltb, eq-eqb, inl, inr, append-nil, append_assoc, take, Option, Some, None}
 use Rattle.std.specs.Prelude.{is_some, unwrap_or}
 use Rattle.std.specs.List.{cons_option}
 use Rattle.std.specs.Set.{is_member}
-use Rattle.std.proofs.lemmas.Bool.{eqb-true, ne_eqb, or_cases, true≢false}
+use Rattle.std.specs.Io.{StartsWith}
+use Rattle.std.proofs.KnownBytes.{starts_with_rest}
+use Rattle.std.proofs.lemmas.Bool.{eqb-true, ne_eqb, or_cases, or_left, true≢false}
+use Rattle.std.proofs.Math.Seq.{take-append_seam}
 use Rattle.std.proofs.lemmas.List.{map-append}
 use Rattle.std.proofs.lemmas.List.Folds.{list_any-append}
 use Rattle.std.specs.Prelude.{All}
@@ -15,15 +18,17 @@ use Rattle.kc_text.specs.declared.change.ChangeLine.{ChangeLine}
 use Rattle.kc_text.specs.declared.kind.Kind.TheVariants.{EdgeLineInBatch, LoopInBatch, TooManyVertices, UpdateOutsideBatch}
 use Rattle.kc_text.specs.declared.line.TextLine.TheVariants as said
 use Rattle.kc_text.specs.Inputs.{AreAmong, EdgeUpdate, between, numbered, numbered_change, parts_of, place}
-use Rattle.kc_text.specs.Meaning.{Told, ends, ends_of, or_else, unfit, with_line}
+use Rattle.kc_text.specs.Meaning.{Told, changes, ends, ends_of, names, or_else, unfit, with_line}
 use Rattle.kc_text.proofs.Counts.{ends-push}
 use Rattle.kc_lists.proofs.Results.{none-from}
 use Rattle.kc_text.proofs.Places.{place-below, place-injective}
-use Rattle.kc_stream.specs.Gathering.{Holds, IsPairBelow, IsUpdateBelow}
-use Rattle.kc_stream.specs.Hearing.{passed_limit, refused}
+use Rattle.kc_text.proofs.Telling.{ends-told}
+use Rattle.kc_stream.specs.Gathering.{Holds, IsPairBelow, IsSpoilt, IsUpdateBelow, Knows}
+use Rattle.kc_stream.specs.Hearing.{emptied, passed_limit, refused}
 use Rattle.kc_stream.specs.Ids.{ids_of, with_name, with_names}
 use Rattle.kc_stream.specs.declared.gathered.Gathered.{Gathered}
-use Rattle.kc_stream.proofs.Naming.{Extends, among-more, changes-stay, edges-stay, extends-names, ids-change, ids-edge, name-grows}
+use Rattle.kc_stream.proofs.Naming.{Extends, among-more, changes-stay, edges-stay, extends-names, ids-batch, ids-change, ids-edge, name-grows}
+use Rattle.kc_stream.proofs.Naming.{names-behind, names-members}
 
 -- where it is some, there is a value
 pub some-from : {X : Type 0} (o : Option X) → is_some o ≡ true → (x : X) × (o ≡ Some x)
@@ -37,6 +42,28 @@ no-batch gathered told out h = none-from told.last (sym h.in_batch ∙ out)
 -- where there is one, it is held
 pub some-batch : (gathered : Gathered) (told : Told) → gathered.in_batch ≡ true → Holds gathered told → (batch : List ChangeLine) × (told.last ≡ Some batch)
 some-batch gathered told here h = some-from told.last (sym h.in_batch ∙ here)
+
+-- where there is none, there is no value
+pub no-value : {X : Type 0} (P : Type 0) (o : Option X) → o ≡ None → is_some o ≡ true → P
+no-value P o none some = absurd (true≢false (sym some ∙ ap is_some none))
+
+-- the ids of before the batch stay in front with others behind
+knows-more : (known now : ℕ) (ids new more : List ℕ) (told : Told) → now ≡ known → new ≡ ids ++ more → Knows known ids told → Knows now new told
+knows-more known now ids new more told same grown k = record {
+  known_is = same ∙ k.known_is;
+  came = k.came ++ more;
+  ids_are = grown ∙ ap (λ (l : List ℕ). l ++ more) k.ids_are ∙ append_assoc (ids_of (emptied told)) k.came more;
+}
+
+-- as a batch begins, all ids are of before it
+knows-all : (known : ℕ) (ids : List ℕ) (told : Told) → known ≡ length ids → ids ≡ ids_of told → Knows known ids (with_line told said.Batch)
+knows-all known ids told count named =
+    let is : ids ≡ ids_of (with_line told said.Batch) = named ∙ sym (ids-batch told) in
+    record {
+      known_is = count ∙ ap length is;
+      came = [];
+      ids_are = is ∙ sym (append-nil (ids_of (with_line told said.Batch)));
+    }
 
 -- two names behind others are among ids that have all
 among-two : (ids named : List ℕ) (a b : ℕ) → AreAmong ids named → is_member nat_eq ids a ≡ true → is_member nat_eq ids b ≡ true
@@ -93,17 +120,21 @@ holds-edge old new told a b out ids ia ib same edges within updates h =
       edges_within = within (length new.ids) (place-below new.ids a ia) (place-below new.ids b ib)
           (λ k d l. let (lesser, w) = h.edges_within k d l in (lesser, omega (arith, more)));
       updates_within = subst (All (IsUpdateBelow (length new.ids))) (sym updates) (λ k d l. let w = h.updates_within k d l in omega (arith, more));
+      no_edges = no-value (new.edges.items ≡ []) told.last none;
+      knows = no-value (Knows new.known new.ids (with_line told (said.Edge a b))) told.last none;
     }
 
 -- a change of the batch is held
 pub holds-change : (old new : Gathered) (told : Told) (c : ChangeLine) (u : Update) → old.in_batch ≡ true
     → new.ids ≡ with_names old.ids (c.a ∷ c.b ∷ []) → is_member nat_eq new.ids c.a ≡ true → is_member nat_eq new.ids c.b ≡ true
     → new.in_batch ≡ old.in_batch → new.updates.items ≡ old.updates.items ++ u ∷ [] → parts_of u ≡ numbered_change new.ids c
-    → new.edges.items ≡ old.edges.items → Holds old told → Holds new (with_line told (said.Change c))
-holds-change old new told c u here ids ia ib same updates is edges h =
+    → new.edges.items ≡ old.edges.items → new.known ≡ old.known → Holds old told → Holds new (with_line told (said.Change c))
+holds-change old new told c u here ids ia ib same updates is edges known h =
     let f : Extends old.ids new.ids = subst (Extends old.ids) (sym ids) (extends-names old.ids (c.a ∷ c.b ∷ [])) in
     let cs : List ChangeLine = unwrap_or told.last [] in
     let more : length old.ids ≤ length new.ids = both-grow old.ids new.ids c.a c.b ids in
+    let (behind, grown) = names-behind old.ids (c.a ∷ c.b ∷ []) in
+    let some : is_some told.last ≡ true = sym h.in_batch ∙ here in
     record {
       ids = ids ∙ ap (λ (l : List ℕ). with_names l (c.a ∷ c.b ∷ [])) h.ids ∙ sym (ids-change told c);
       in_batch = same ∙ here;
@@ -122,6 +153,73 @@ holds-change old new told c u here ids ia ib same updates is edges h =
       updates_within = subst (All (IsUpdateBelow (length new.ids))) (sym updates)
           (All-push (IsUpdateBelow (length new.ids)) old.updates.items u (λ k d l. let w = h.updates_within k d l in omega (arith, more))
           (omega (arith, ap (λ (x : EdgeUpdate). x.v) is, place-below new.ids c.a ia, place-below new.ids c.b ib)));
+      no_edges = λ _. edges ∙ h.no_edges some;
+      knows = λ _.
+          let k : Knows new.known new.ids told = knows-more old.known new.known old.ids new.ids behind told known (ids ∙ grown) (h.knows some) in
+          record { known_is = k.known_is; came = k.came; ids_are = k.ids_are };
+    }
+
+-- a batch begins
+pub holds-batch : (old new : Gathered) (told : Told) → new.ids ≡ old.ids → new.in_batch ≡ true → new.known ≡ length old.ids → new.edges.items ≡ []
+    → new.updates.items ≡ [] → Holds old told → Holds new (with_line told said.Batch)
+holds-batch old new told ids here known edges updates h = record {
+  ids = ids ∙ h.ids ∙ sym (ids-batch told);
+  in_batch = here;
+  begun = λ none. absurd (cc);
+  edges = λ none. absurd (cc);
+  edge_ends = subst (λ (l : List ℕ). AreAmong l (ends told.edges)) (sym ids) h.edge_ends;
+  updates = ap (map parts_of) updates;
+  update_ends = λ x m. absurd (true≢false (sym m));
+  edges_within = subst (All (IsPairBelow (length new.ids))) (sym edges) (λ k d l. absurd (omega (arith, l)));
+  updates_within = subst (All (IsUpdateBelow (length new.ids))) (sym updates) (λ k d l. absurd (omega (arith, l)));
+  no_edges = λ _. edges;
+  knows = λ _. knows-all new.known new.ids told (known ∙ ap length (sym ids)) (ids ∙ h.ids);
+}
+
+-- where a line is refused, what it takes to drop the batch is left, also where ids came by that line
+pub spoilt-more : (old new : Gathered) (told : Told) → new.in_batch ≡ old.in_batch → new.known ≡ old.known → new.edges.items ≡ old.edges.items
+    → StartsWith new.ids old.ids → Holds old told → IsSpoilt new told
+spoilt-more old new told same known edges kept h = record {
+  in_batch = same ∙ h.in_batch;
+  no_edges = λ some. edges ∙ h.no_edges some;
+  knows = λ some. knows-more old.known new.known old.ids new.ids _ told known (starts_with_rest new.ids old.ids kept) (h.knows some);
+}
+
+-- and where none came
+pub spoilt-same : (gathered : Gathered) (told : Told) → Holds gathered told → IsSpoilt gathered told
+spoilt-same gathered told h = record { in_batch = h.in_batch; no_edges = h.no_edges; knows = h.knows }
+
+-- the ends of edges that were told are among the ids
+edges-among : (told : Told) → AreAmong (ids_of told) (ends told.edges)
+edges-among told = λ x m.
+    names-members [] (names told) x
+    (ap (λ (l : List ℕ). is_member nat_eq l x) (ends-told told.edges (changes told))
+    ∙ list_any-append (nat_eq x) (ends told.edges) (ends (map ends_of (changes told))) ∙ or_left _ _ m)
+
+-- the batch is dropped that is open
+pub holds-emptied : (old new : Gathered) (told : Told) → is_some told.last ≡ true → new.ids ≡ take old.known old.ids → new.in_batch ≡ old.in_batch
+    → new.known ≡ old.known → new.edges.items ≡ old.edges.items → new.updates.items ≡ [] → IsSpoilt old told → Holds new (emptied told)
+holds-emptied old new told some ids same known edges updates s =
+    let k : Knows old.known old.ids told = s.knows some in
+    let front : take old.known old.ids ≡ ids_of (emptied told) =
+    ap₂ (λ (n : ℕ) (l : List ℕ). take n l) k.known_is k.ids_are ∙ take-append_seam (ids_of (emptied told)) k.came in
+    let none : new.edges.items ≡ [] = edges ∙ s.no_edges some in
+    record {
+      ids = ids ∙ front;
+      in_batch = same ∙ s.in_batch ∙ some;
+      begun = λ bad. absurd (cc);
+      edges = λ bad. absurd (cc);
+      edge_ends = subst (λ (l : List ℕ). AreAmong l (ends told.edges)) (sym (ids ∙ front)) (edges-among (emptied told));
+      updates = ap (map parts_of) updates;
+      update_ends = λ x m. absurd (true≢false (sym m));
+      edges_within = subst (All (IsPairBelow (length new.ids))) (sym none) (λ k d l. absurd (omega (arith, l)));
+      updates_within = subst (All (IsUpdateBelow (length new.ids))) (sym updates) (λ k d l. absurd (omega (arith, l)));
+      no_edges = λ _. none;
+      knows = λ _. record {
+        known_is = known ∙ k.known_is;
+        came = [];
+        ids_are = ids ∙ front ∙ sym (append-nil (ids_of (emptied told)));
+      };
     }
 
 -- there are too many ids, or there are not

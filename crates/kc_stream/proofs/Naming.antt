@@ -1,6 +1,9 @@
 -- Ids and their numbers, with one name more and with several.
 use Rattle.std.proofs.Common.{◌≡◌, ◌≤◌, ◌<◌, ◌+◌, ℕ, suc, Bool, true, false, cond, not, ◌||◌, List, [], ◌∷◌, ◌++◌, length, map, refl, sym, ap, ap₂, ◌∙◌}
-use Rattle.std.proofs.Common.{subst, arith, nat_eq, eq-eqb, eqb-true, inl, inr, length-append, append_assoc, Option, Some, None, min, max}
+use Rattle.std.proofs.Common.{subst, arith, nat_eq, eq-eqb, eqb-true, inl, inr, length-append, append-nil, append_assoc, Option, Some, None, min, max}
+use Rattle.kc_lists.specs.Lists.{Distinct}
+use Rattle.kc_lists.proofs.Counting.{Distinct-push}
+use Rattle.kc_lists.proofs.Members.{Distinct-cut}
 use Rattle.std.specs.List.{filter_map, position_or_len, cons_option}
 use Rattle.std.specs.Set.{is_member}
 use Rattle.std.proofs.lemmas.Bool.{cases_Bool, or_cases, or_left, or_right, false≢true}
@@ -96,6 +99,27 @@ names-members ids (n ∷ named) = λ x m. elim (or_cases (nat_eq x n) (is_member
   | inl is ↦ subst (λ (y : ℕ). is_member nat_eq (with_names (with_name ids n) named) y ≡ true) (sym (eqb-true x n is))
       (extends-names (with_name ids n) named n (name-member ids n)).0
   | inr later ↦ names-members (with_name ids n) named x later
+]
+
+-- ids with more names are those ids, and others behind them
+pub names-behind : (ids named : List ℕ) → (more : List ℕ) × (with_names ids named ≡ ids ++ more)
+names-behind ids [] = ([], sym (append-nil ids))
+names-behind ids (n ∷ named) = elim (cases_Bool (is_member nat_eq ids n)) [
+  | inl known ↦
+      let (more, is) = names-behind ids named in
+      (more, ap (λ (l : List ℕ). with_names l named) (name-known ids n known) ∙ is)
+  | inr new ↦
+      let (more, is) = names-behind (ids ++ n ∷ []) named in
+      (n ∷ more, ap (λ (l : List ℕ). with_names l named) (name-new ids n new) ∙ is ∙ append_assoc ids (n ∷ []) more)
+]
+
+-- and none of them stands there twice
+pub names-once : (ids named : List ℕ) → Distinct ids → Distinct (with_names ids named)
+names-once ids [] once = once
+names-once ids (n ∷ named) once = elim (cases_Bool (is_member nat_eq ids n)) [
+  | inl known ↦ subst (λ (l : List ℕ). Distinct (with_names l named)) (sym (name-known ids n known)) (names-once ids named once)
+  | inr new ↦ subst (λ (l : List ℕ). Distinct (with_names l named)) (sym (name-new ids n new))
+      (names-once (ids ++ n ∷ []) named (Distinct-push ids n once new))
 ]
 
 -- names of which each is an id are ids of more
@@ -220,3 +244,15 @@ pub numbers-put : {S : Type 0} (ids : List ℕ) (old new : HashMap ℕ ℕ S) (i
 numbers-put ids old new id has none put = λ q.
     put q ∙ ap (λ (o : Option ℕ). cond (nat_eq id q) (Some (length ids)) o) (has q)
     ∙ sym (number-push ids id q (number-none ids id (sym (has id) ∙ none)))
+
+-- a map of numbers, without that of the last id
+pub numbers-cut : {S : Type 0} (ids : List ℕ) (old new : HashMap ℕ ℕ S) (id : ℕ) → HasNumbers (ids ++ id ∷ []) old → Distinct (ids ++ id ∷ [])
+    → ((q : ℕ) → get nat_eq new q ≡ cond (nat_eq id q) None (get nat_eq old q)) → HasNumbers ids new
+numbers-cut ids old new id has once cut = λ q.
+    let out : is_member nat_eq ids id ≡ false = (Distinct-cut id ids [] once).0 in
+    cut q ∙ ap (λ (o : Option ℕ). cond (nat_eq id q) None o) (has q ∙ number-push ids id q out) ∙ (elim (cases_Bool (nat_eq id q)) [
+      | inl same ↦
+          let none : number_of ids q ≡ None = ap (number_of ids) (sym (eqb-true id q same)) ∙ ap (λ b. cond b (Some (place ids id)) None) out in
+          ap (λ b. cond b None (cond b (Some (length ids)) (number_of ids q))) same ∙ sym none
+      | inr other ↦ ap (λ b. cond b None (cond b (Some (length ids)) (number_of ids q))) other
+    ])

@@ -1,5 +1,5 @@
 -- What the lines of a stream come to, one after another.
-use Rattle.std.specs.Prelude.{◌+◌, ◌-◌, ◌^◌, ℕ, List, Option, Some, None, fold, is_some, length, min, nat_lt, if◌then◌else◌}
+use Rattle.std.specs.Prelude.{◌+◌, ◌-◌, ◌^◌, ℕ, Bool, true, List, [], Option, Some, None, fold, is_some, length, min, nat_lt, not, if◌then◌else◌}
 use Rattle.kc_words.specs.declared.layout.TheConstants.{VERTICES}
 use Rattle.kc_text.specs.declared.kind.Kind.{Kind}
 use Rattle.kc_text.specs.declared.kind.Kind.TheVariants.{EdgeLineInBatch, TooManyVertices, UpdateOutsideBatch}
@@ -7,6 +7,8 @@ use Rattle.kc_text.specs.declared.line.TextLine.{TextLine}
 use Rattle.kc_text.specs.declared.line.TextLine.TheVariants.{Nothing, Edge, Batch, Change, Wrong}
 use Rattle.kc_text.specs.declared.refusal.Refusal.{Refusal}
 use Rattle.kc_text.specs.Meaning.{Told, nothing_told, or_else, unfit, with_line}
+use Rattle.kc_stream.specs.declared.bad_lines.BadLines.{BadLines}
+use Rattle.kc_stream.specs.declared.bad_lines.BadLines.TheVariants as on_bad
 use Rattle.kc_stream.specs.Asking.{stream_lines}
 use Rattle.kc_stream.specs.Ended.{ended}
 use Rattle.kc_stream.specs.Ids.{ids_of}
@@ -32,42 +34,99 @@ refused told Batch = None
 refused told (Change c) = or_else (unfit told.last c) (passed_limit (with_line told (Change c)))
 refused told (Wrong kind) = Some kind
 
--- What lines come to: how many were read, what they have told, and the first that is refused. Behind that one nothing is read.
+-- What lines come to: how many were read, what they have told, and the refused line that ends the reading, if one does. Behind that one nothing
+-- is read. While the batch that is open is dropped, `dropped` is the first line of it that is refused; and so many batches were dropped. What is
+-- told has a dropped batch as one without changes, so it is counted among the batches.
 pub record Heard : Type 0 where
   pub lines : ℕ
   pub told : Told
   pub refusal : Option Refusal
+  pub dropped : Option Refusal
+  pub refused_batches : ℕ
 
 -- nothing was read
 abbrev pub nothing_heard : Heard
-nothing_heard = record { lines = 0; told = nothing_told; refusal = None }
+nothing_heard = record { lines = 0; told = nothing_told; refusal = None; dropped = None; refused_batches = 0 }
 
--- one line more was read; lines are counted up to the greatest number of 64 bits
+-- one more, counted up to the greatest number of 64 bits
 abbrev pub one_more : ℕ → ℕ
-one_more lines = min (lines + 1) (2 ^ 64 - 1)
+one_more count = min (count + 1) (2 ^ 64 - 1)
 
--- one line more, with the cause where it is refused
-abbrev pub judged : Heard → TextLine → Option Kind → Heard
-judged heard line None = record { lines = one_more heard.lines; told = with_line heard.told line; refusal = None }
-judged heard line (Some kind) =
-    record { lines = one_more heard.lines; told = heard.told; refusal = Some (record { line = one_more heard.lines; kind = kind }) }
+-- what is told without the changes of the batch that is open
+abbrev pub emptied : Told → Told
+emptied told = record told { last = Some [] }
 
--- one line more that tells this, which is not read behind one that is refused
-abbrev pub hear_told : Heard → TextLine → Heard
-hear_told heard line = if is_some heard.refusal then heard else judged heard line (refused heard.told line)
+-- whether a refused line ends the reading: it does where it is to, and where there is no batch that it could drop
+abbrev pub ends_reading : BadLines → Told → Bool
+ends_reading on_bad.Stop told = true
+ends_reading on_bad.Batch told = not (is_some told.last)
+
+-- a refused line that ends the reading
+abbrev pub stopped : Heard → Refusal → Heard
+stopped heard refusal = record {
+  lines = one_more heard.lines;
+  told = heard.told;
+  refusal = Some refusal;
+  dropped = None;
+  refused_batches = heard.refused_batches;
+}
+
+-- a refused line that drops the batch that is open
+abbrev pub batch_dropped : Heard → Refusal → Heard
+batch_dropped heard refusal = record {
+  lines = one_more heard.lines;
+  told = emptied heard.told;
+  refusal = None;
+  dropped = Some refusal;
+  refused_batches = one_more heard.refused_batches;
+}
+
+-- a refused line
+abbrev pub refuse : BadLines → Heard → Refusal → Heard
+refuse bad heard refusal = if ends_reading bad heard.told then stopped heard refusal else batch_dropped heard refusal
+
+-- one line more that tells this and is not refused
+abbrev pub taken : Heard → TextLine → Heard
+taken heard line = record {
+  lines = one_more heard.lines;
+  told = with_line heard.told line;
+  refusal = None;
+  dropped = None;
+  refused_batches = heard.refused_batches;
+}
+
+-- one line more, with the cause where it is refused; lines are counted up to the greatest number of 64 bits
+abbrev pub judged : BadLines → Heard → TextLine → Option Kind → Heard
+judged bad heard line None = taken heard line
+judged bad heard line (Some kind) = refuse bad heard (record { line = one_more heard.lines; kind = kind })
+
+-- one line more behind a refused one of its batch: it is passed over, whatever it tells, unless it begins the next batch
+abbrev pub passed : Heard → TextLine → Heard
+passed heard Nothing = record heard { lines = one_more heard.lines }
+passed heard (Edge a b) = record heard { lines = one_more heard.lines }
+passed heard Batch = taken heard Batch
+passed heard (Change c) = record heard { lines = one_more heard.lines }
+passed heard (Wrong kind) = record heard { lines = one_more heard.lines }
+
+-- one line more that tells this; it is not read behind one that ends the reading
+abbrev pub hear_told : BadLines → Heard → TextLine → Heard
+hear_told bad heard line =
+    if is_some heard.refusal then heard
+    else if is_some heard.dropped then passed heard line
+    else judged bad heard line (refused heard.told line)
 
 -- one line more
-abbrev pub hear : Heard → StreamLine → Heard
-hear heard line = hear_told heard (told_by heard.told line)
+abbrev pub hear : BadLines → Heard → StreamLine → Heard
+hear bad heard line = hear_told bad heard (told_by heard.told line)
 
 -- lines more
-abbrev pub hear_all : Heard → List StreamLine → Heard
-hear_all heard lines = fold hear heard lines
+abbrev pub hear_all : BadLines → Heard → List StreamLine → Heard
+hear_all bad heard lines = fold (hear bad) heard lines
 
 -- what the lines of some bytes come to that have ended: the bytes behind the last newline may be a part of a line
-abbrev pub heard_so_far : List ℕ → Heard
-heard_so_far bytes = hear_all nothing_heard (stream_lines (ended bytes))
+abbrev pub heard_so_far : BadLines → List ℕ → Heard
+heard_so_far bad bytes = hear_all bad nothing_heard (stream_lines (ended bytes))
 
 -- what all lines of some bytes come to, where no other bytes follow
-abbrev pub heard_at_end : List ℕ → Heard
-heard_at_end bytes = hear_all nothing_heard (stream_lines bytes)
+abbrev pub heard_at_end : BadLines → List ℕ → Heard
+heard_at_end bad bytes = hear_all bad nothing_heard (stream_lines bytes)

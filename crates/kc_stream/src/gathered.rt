@@ -1,13 +1,14 @@
 //! What is kept of the lines of a stream: the edges of the start until a batch begins, and then the updates of one batch at a time.
-ghost use Rattle.std.specs.Prelude.{◌≡◌, ◌≢◌, ◌<◌, ◌++◌, ℕ, [], All, None, IfOk, OnOk, max, min};
+ghost use Rattle.std.specs.Prelude.{◌≡◌, ◌≢◌, ◌<◌, ◌++◌, ℕ, [], true, All, None, Some, IfOk, OnOk, is_some, max, min, not};
 ghost use Rattle.std.specs.List.{cons_option};
 ghost use Rattle.kc_text.specs.Inputs.{between};
 ghost use Rattle.kc_text.specs.Meaning.{Told, with_line};
 ghost use Rattle.kc_text.specs.declared.line.TextLine.TheVariants as said;
-ghost use Rattle.kc_stream.specs.Gathering.{Gathers, Holds, IsPairBelow};
-ghost use Rattle.kc_stream.specs.Hearing.{Heard, hear, nothing_heard, refused, told_by};
+ghost use Rattle.kc_stream.specs.Gathering.{Gathers, Holds, IsPairBelow, IsSpoilt, RefusesNext};
+ghost use Rattle.kc_stream.specs.Hearing.{Heard, emptied, ends_reading, hear, nothing_heard, one_more, passed, refuse, refused, told_by};
 
 use crate::NoMemory;
+use crate::bad_lines::BadLines;
 use crate::ids::Ids;
 use crate::stream_line::StreamLine;
 use kc_graph::Update;
@@ -22,10 +23,16 @@ pub struct Gathered {
     edges: Vec<(u32, u32)>,
     updates: Vec<Update>,
     in_batch: bool,
+    /// How many ids were named before the batch that is open.
+    known: u32,
     /// How many lines were read, up to the greatest number.
     lines: u64,
-    /// The first line that is refused, if one is.
+    /// The refused line that ends the reading, if one does.
     refusal: Option<Refusal>,
+    /// The first refused line of the batch that is open, where that is dropped.
+    dropped: Option<Refusal>,
+    /// How many batches were dropped, up to the greatest number.
+    refused_batches: u64,
 }
 
 impl Gathered {
@@ -38,8 +45,11 @@ impl Gathered {
             edges: Vec::new(alloc),
             updates: Vec::new(alloc),
             in_batch: false,
+            known: 0,
             lines: 0,
             refusal: None,
+            dropped: None,
+            refused_batches: 0,
         }
     }
 
@@ -71,31 +81,103 @@ impl Gathered {
         self.in_batch
     }
 
-    /// The first line that is refused, with the first check that it fails.
+    /// The refused line that ends the reading, with the first check that it fails.
     pub fn refusal(&self) -> Option<Refusal>
         ensures { result ≡ self.now.refusal }
     {
         self.refusal
     }
 
-    /// Reads one line more. Behind one that is refused none is read. A question is counted, and changes nothing else; before any batch line
-    /// it is refused. After `NoMemory` what is gathered is of no more use.
-    pub fn take(&mut self, alloc: Global, line: StreamLine) -> Result<(), NoMemory>
-        ensures { OnOk result ((heard : Heard) → Gathers self.old heard → Gathers self.new (hear heard line)) }
+    /// The first refused line of the batch that is open, with the first check that it fails, where that batch is dropped.
+    pub fn dropped(&self) -> Option<Refusal>
+        ensures { result ≡ self.now.dropped }
+    {
+        self.dropped
+    }
+
+    /// How many batches were dropped.
+    pub fn refused_batches(&self) -> u64
+        ensures { result ≡ self.now.refused_batches }
+    {
+        self.refused_batches
+    }
+
+    /// Reads one line more. Behind one that ends the reading none is read, and in a batch that is dropped a line is passed over up to the next
+    /// batch line. A question is counted, and changes nothing else; before any batch line it is refused. After `NoMemory` what is gathered is
+    /// of no more use.
+    pub fn take(
+        &mut self,
+        alloc: Global,
+        bad_lines: BadLines,
+        line: StreamLine,
+    ) -> Result<(), NoMemory>
+        ensures { OnOk result ((heard : Heard) → Gathers self.old heard → Gathers self.new (hear bad_lines heard line)) }
     {
         if self.refusal.is_some() {
             return Ok(());
         }
         let told = self.told_by(line);
+        if self.dropped.is_some() {
+            self.pass(alloc, told);
+            return Ok(());
+        }
         let cause = self.take_line(alloc, told)?;
         self.lines = self.lines.saturating_add(1);
         if let Some(kind) = cause {
-            self.refusal = Some(Refusal {
-                line: self.lines,
-                kind,
-            });
+            self.refuse(bad_lines, kind);
         }
         Ok(())
+    }
+
+    /// Passes over a line of a batch that is dropped, unless it begins the next batch.
+    fn pass(&mut self, alloc: Global, line: TextLine)
+        ensures { (heard : Heard) → heard.refusal ≡ None → is_some heard.dropped ≡ true → Gathers self.old heard → Gathers self.new (passed heard line) }
+    {
+        self.lines = self.lines.saturating_add(1);
+        if let TextLine::Batch = line {
+            self.begin_batch(alloc);
+            self.dropped = None;
+        }
+    }
+
+    /// Refuses the line that was read last, which ends the reading or drops the batch that is open.
+    fn refuse(&mut self, bad_lines: BadLines, kind: Kind)
+        ensures { (heard : Heard) → RefusesNext self.old heard
+            → Gathers self.new (refuse bad_lines heard (record { line = one_more heard.lines; kind = kind })) }
+    {
+        let refusal = Refusal {
+            line: self.lines,
+            kind,
+        };
+        if self.drops(bad_lines) {
+            self.drop_batch(refusal);
+        } else {
+            self.refusal = Some(refusal);
+        }
+    }
+
+    /// Whether a refused line drops the batch that is open.
+    fn drops(&self, bad_lines: BadLines) -> bool
+        ensures { (told : Told) → self.now.in_batch ≡ is_some told.last → result ≡ not (ends_reading bad_lines told) }
+    {
+        match bad_lines {
+            BadLines::Stop => false,
+            BadLines::Batch => self.in_batch,
+        }
+    }
+
+    /// Drops the batch that is open: its changes are forgotten, and the ids that came in it.
+    fn drop_batch(&mut self, refusal: Refusal)
+        ensures holds { (told : Told) → is_some told.last ≡ true → IsSpoilt self.old told → Holds self.new (emptied told) }
+        ensures dropped { self.new.dropped ≡ Some refusal }
+        ensures refused_batches { self.new.refused_batches ≡ one_more self.old.refused_batches }
+        ensures lines { self.new.lines ≡ self.old.lines }
+        ensures refusal { self.new.refusal ≡ self.old.refusal }
+    {
+        self.ids.forget_behind(self.known);
+        self.updates.truncate(0);
+        self.dropped = Some(refusal);
+        self.refused_batches = self.refused_batches.saturating_add(1);
     }
 
     /// What a line tells: a question tells nothing, or that it stands before any batch line.
@@ -118,8 +200,11 @@ impl Gathered {
     fn take_line(&mut self, alloc: Global, line: TextLine) -> Result<Option<Kind>, NoMemory>
         ensures refused { IfOk result (λ cause. (told : Told) → Holds self.old told → cause ≡ refused told line) }
         ensures holds { IfOk result (λ cause. cause ≡ None → (told : Told) → Holds self.old told → Holds self.new (with_line told line)) }
+        ensures spoilt { IfOk result (λ cause. is_some cause ≡ true → (told : Told) → Holds self.old told → IsSpoilt self.new told) }
         ensures lines { OnOk result (self.new.lines ≡ self.old.lines) }
         ensures refusal { OnOk result (self.new.refusal ≡ self.old.refusal) }
+        ensures dropped { OnOk result (self.new.dropped ≡ self.old.dropped) }
+        ensures refused_batches { OnOk result (self.new.refused_batches ≡ self.old.refused_batches) }
     {
         match line {
             TextLine::Nothing => Ok(None),
@@ -137,8 +222,11 @@ impl Gathered {
     fn take_edge(&mut self, a: u32, b: u32) -> Result<Option<Kind>, NoMemory>
         ensures refused { IfOk result (λ cause. (told : Told) → Holds self.old told → cause ≡ refused told (said.Edge a b)) }
         ensures holds { IfOk result (λ cause. cause ≡ None → (told : Told) → Holds self.old told → Holds self.new (with_line told (said.Edge a b))) }
+        ensures spoilt { IfOk result (λ cause. is_some cause ≡ true → (told : Told) → Holds self.old told → IsSpoilt self.new told) }
         ensures lines { OnOk result (self.new.lines ≡ self.old.lines) }
         ensures refusal { OnOk result (self.new.refusal ≡ self.old.refusal) }
+        ensures dropped { OnOk result (self.new.dropped ≡ self.old.dropped) }
+        ensures refused_batches { OnOk result (self.new.refused_batches ≡ self.old.refused_batches) }
     {
         if self.in_batch {
             return Ok(Some(Kind::EdgeLineInBatch));
@@ -155,11 +243,14 @@ impl Gathered {
         ensures holds { (told : Told) → Holds self.old told → Holds self.new (with_line told said.Batch) }
         ensures lines { self.new.lines ≡ self.old.lines }
         ensures refusal { self.new.refusal ≡ self.old.refusal }
+        ensures dropped { self.new.dropped ≡ self.old.dropped }
+        ensures refused_batches { self.new.refused_batches ≡ self.old.refused_batches }
     {
         if !self.in_batch {
             self.in_batch = true;
             self.edges = Vec::new(alloc);
         }
+        self.known = self.ids.count();
         self.updates.clear();
     }
 
@@ -168,8 +259,11 @@ impl Gathered {
         ensures refused { IfOk result (λ cause. (told : Told) → Holds self.old told → cause ≡ refused told (said.Change change)) }
         ensures holds { IfOk result (λ cause. cause ≡ None → (told : Told) → Holds self.old told
             → Holds self.new (with_line told (said.Change change))) }
+        ensures spoilt { IfOk result (λ cause. is_some cause ≡ true → (told : Told) → Holds self.old told → IsSpoilt self.new told) }
         ensures lines { OnOk result (self.new.lines ≡ self.old.lines) }
         ensures refusal { OnOk result (self.new.refusal ≡ self.old.refusal) }
+        ensures dropped { OnOk result (self.new.dropped ≡ self.old.dropped) }
+        ensures refused_batches { OnOk result (self.new.refused_batches ≡ self.old.refused_batches) }
     {
         if !self.in_batch {
             return Ok(Some(Kind::UpdateOutsideBatch));

@@ -1,5 +1,6 @@
 //! Ids that come, and the numbers that stand for them.
-ghost use Rattle.std.specs.Prelude.{◌≡◌, ◌<◌, ◌≤◌, [], ◌∷◌, true, length, IfOk, MatchOption, OnErr, nat_eq};
+ghost use Rattle.std.specs.Prelude.{◌≡◌, ◌<◌, ◌≤◌, ◌-◌, [], ◌∷◌, true, length, take, IfOk, MatchOption, OnErr, nat_eq};
+ghost use Rattle.std.specs.Io.{StartsWith};
 ghost use Rattle.std.specs.Set.{is_member};
 ghost use Rattle.kc_text.specs.Inputs.{place};
 ghost use Rattle.kc_words.specs.declared.layout.TheConstants.{VERTICES};
@@ -21,6 +22,7 @@ pub struct Ids {
 
 impl Model for Ids {
     ghost use Rattle.std.specs.Prelude.{ℕ, List, length, ◌≤◌};
+    ghost use Rattle.kc_lists.specs.Lists.{Distinct};
     ghost use Rattle.kc_words.specs.declared.layout.TheConstants.{VERTICES};
     ghost use Rattle.kc_stream.specs.Ids.{HasNumbers};
 
@@ -28,7 +30,7 @@ impl Model for Ids {
 
     ghost view = { λ ids. ids.names.items };
 
-    ghost invariant = { λ ids. HasNumbers ids.names.items ids.numbers × (length ids.names.items ≤ VERTICES) };
+    ghost invariant = { λ ids. HasNumbers ids.names.items ids.numbers × Distinct ids.names.items × (length ids.names.items ≤ VERTICES) };
 }
 
 impl Ids {
@@ -71,6 +73,7 @@ impl Ids {
             (λ v. (self.new ≡ with_name self.old id) × (v ≡ place self.new id) × (is_member nat_eq self.new id ≡ true))) }
         ensures none { IfOk result (λ number. MatchOption number (self.new ≡ self.old) (λ v. v < length self.new)) }
         ensures same { OnErr result (self.new ≡ self.old) }
+        ensures kept { StartsWith self.new self.old }
         ensures few { length self.new ≤ VERTICES }
     {
         if let Some(number) = self.numbers.get(&id).copied() {
@@ -95,6 +98,7 @@ impl Ids {
             (λ v. (self.new ≡ with_names self.old (a ∷ b ∷ [])) × (v.0 ≡ place self.new a) × (v.1 ≡ place self.new b))) }
         ensures among { IfOk result (λ numbers. MatchOption numbers (VERTICES < length (with_names self.old (a ∷ b ∷ [])))
             (λ v. (is_member nat_eq self.new a ≡ true) × (is_member nat_eq self.new b ≡ true))) }
+        ensures kept { StartsWith self.new self.old }
         ensures few { length self.new ≤ VERTICES }
     {
         let Some(first) = self.name(a)? else {
@@ -104,5 +108,23 @@ impl Ids {
             return Ok(None);
         };
         Ok(Some((first, second)))
+    }
+
+    /// Forgets the last id, if there is one.
+    fn forget_last(&mut self)
+        ensures { self.new ≡ take (length self.old - 1) self.old }
+    {
+        if let Some(name) = self.names.pop() {
+            self.numbers.remove(&name);
+        }
+    }
+
+    /// Forgets all ids but the first so many.
+    pub fn forget_behind(&mut self, count: u32)
+        ensures { self.new ≡ take count self.old }
+    {
+        while self.count() > count {
+            self.forget_last();
+        }
     }
 }

@@ -8,12 +8,14 @@
 //! stream behind its last line end. The crate stands on `kc_text` for what a line says, and on `kc_graph` for updates.
 #![tactic(auto)]
 
+mod bad_lines;
 mod ended;
 mod gathered;
 mod ids;
 mod question;
 mod stream_line;
 
+pub use bad_lines::BadLines;
 pub use ended::ended_len;
 pub use gathered::Gathered;
 pub use ids::Ids;

@@ -3,7 +3,7 @@ use Rattle.std.proofs.Common.{◌≡◌, ◌≤◌, ◌<◌, ◌∷◌, [], ℕ,
 use Rattle.kc_words.specs.declared.layout.TheConstants.{VERTICES}
 use Rattle.kc_text.specs.Inputs.{EdgeUpdate, place}
 use Rattle.kc_stream.specs.Ids.{with_names}
-use Rattle.kc_stream.proofs.Holding.{change-fine, change-over, holds-change, places-apart}
+use Rattle.kc_stream.proofs.Holding.{change-fine, change-over, holds-change, places-apart, spoilt-more}
 use Rattle.kc_stream.proofs.gathered.Gathered.take_change.Goals as goal
 
 pub returns-in_default-clause-refused : goal.returns-in_default-clause-refused
@@ -11,6 +11,9 @@ returns-in_default-clause-refused c = λ told h.
     let over : VERTICES < length (with_names c.args.self.now.ids (c.args.change.a ∷ c.args.change.b ∷ [])) =
     rw c.in_default.is at c.in_ok-u.ensures.numbers in
     change-over c.args.self.now told h c.args.change c.if-not-self.false c.if-change.false over
+
+pub returns-in_default-clause-spoilt : goal.returns-in_default-clause-spoilt
+returns-in_default-clause-spoilt c = λ _ told h. spoilt-more c.args.self.now _ told refl refl refl c.name_both.ensures.kept h
 
 pub update_between-requires : goal.update_between-requires
 update_between-requires c =
@@ -33,4 +36,4 @@ returns-clause-holds c = λ _ told h.
     let most : c.update_between.result.v ≡ max (place c.name_both.new.self c.args.change.a) (place c.name_both.new.self c.args.change.b) =
     c.update_between.ensures.most ∙ ap₂ max first second in
     holds-change c.args.self.now _ told c.args.change c.update_between.result c.if-not-self.false ids has-a has-b refl c.in_ok-push.ensures.items
-    (λ i. let u : EdgeUpdate = record { add = c.update_between.ensures.add i; u = least i; v = most i } in u) refl h
+    (λ i. let u : EdgeUpdate = record { add = c.update_between.ensures.add i; u = least i; v = most i } in u) refl refl h

@@ -1,9 +1,12 @@
 -- A new id is put behind the others, and its number into the map.
 use Rattle.std.proofs.Common.{◌≡◌, ◌∷◌, ◌++◌, [], ℕ, List, length, ap, sym, ◌∙◌, arith, None, Some, false, true, nat_eq, subst, cond}
-use Rattle.std.proofs.Common.{length-append}
+use Rattle.std.proofs.Common.{length-append, take}
 use Rattle.std.specs.Prelude.{is_ok}
 use Rattle.std.specs.HashMap.{get}
 use Rattle.std.specs.Set.{is_member}
+use Rattle.std.proofs.Math.Seq.{take-append_seam}
+use Rattle.kc_lists.specs.Lists.{Distinct}
+use Rattle.kc_lists.proofs.Counting.{Distinct-push}
 use Rattle.kc_text.specs.Inputs.{place}
 use Rattle.kc_text.proofs.Places.{place-below}
 use Rattle.kc_stream.specs.Ids.{number_of, with_name}
@@ -28,6 +31,8 @@ invariant_of-self-2 c =
           (numbers-put ids c.self.inside.numbers c.insert.new.self c.args.id c.self.invariant.0 none
           (subst (λ (n : ℕ). (q : ℕ) → get nat_eq c.insert.new.self q ≡ cond (nat_eq c.args.id q) (Some n) (get nat_eq c.self.inside.numbers q))
           count c.in_ok-insert.ensures.updates.0)),
+      subst Distinct (sym pushed)
+          (Distinct-push ids c.args.id c.self.invariant.1 (number-none ids c.args.id (sym (c.self.invariant.0 c.args.id) ∙ none))),
       omega (arith, ap length pushed, length-append ids (c.args.id ∷ []), c.if-number.false, count),
     )
 
@@ -44,3 +49,12 @@ returns-clause-number c =
       omega (arith, c.len-number.ensures, ap (λ (l : List ℕ). place l c.args.id) pushed, place-last ids c.args.id new),
       ap (λ (l : List ℕ). is_member nat_eq l c.args.id) is ∙ name-member ids c.args.id,
     )
+
+pub returns-clause-kept : goal.returns-clause-kept
+returns-clause-kept c =
+    let ids : List ℕ = c.self.inside.names.items in
+    let kept : c.reserve.new.self.items ≡ ids = c.in_ok-reserve.ensures.items in
+    let ok : is_ok c.push.result ≡ true = grind (arith, c.is_err.ensures.negation, c.if-is_err.false) in
+    let pushed : c.push.new.self.items ≡ ids ++ c.args.id ∷ [] = grind (arith, c.push.ensures.items, ok, kept) in
+    ap (λ (l : List ℕ). take (length l) c.push.new.self.items) (sym c.self.view_is) ∙ ap (take (length ids)) pushed
+    ∙ take-append_seam ids (c.args.id ∷ []) ∙ c.self.view_is
