@@ -11,6 +11,7 @@ use Rattle.std.proofs.lemmas.List.Sums.{fold-append}
 use Rattle.kc_lists.specs.Lists.{Distinct}
 use Rattle.kc_lists.proofs.Counting.{Distinct-push}
 use Rattle.kc_graph.specs.Core.{AreCoreNumbers, greatest}
+use Rattle.kc_graph.specs.Growing.{with_vertices}
 use Rattle.kc_graph.specs.SimpleGraph.{SimpleGraph}
 use Rattle.kc_graph.specs.declared.update.Update.{Update}
 use Rattle.kc_graph.proofs.Existence.{certificate_exists}
@@ -21,9 +22,10 @@ use Rattle.kc_text.specs.Inputs.{AreAmong, AreUpdates, EdgeBatch, EdgeUpdate, nu
 use Rattle.kc_text.specs.Meaning.{Told, batches, changes, ends, ends_of, names}
 use Rattle.kc_text.proofs.Decided.{all-numbered}
 use Rattle.kc_text.proofs.Telling.{ends-batches, ends-told}
+use Rattle.kc_batch_effects.proofs.Applying.{graph_after_batch-nil}
 use Rattle.kc_stream.specs.Ids.{ids_of, with_name, with_names}
 use Rattle.kc_stream.proofs.Holding.{some-from}
-use Rattle.kc_stream.proofs.Naming.{name-known, name-new}
+use Rattle.kc_stream.proofs.Naming.{names-behind, names-once}
 use Rattle.kc_watch.specs.Accounts.{Account, account_of, account_of_start, batch_behind, core_numbers_of, entered, ids_with, top_of, with_batch}
 
 -- the core numbers of a graph are its core numbers
@@ -122,26 +124,10 @@ pub account-size : (edges : List (ℕ × ℕ)) (batches : List (List ChangeLine)
 unfolding start_graph
 account-size edges batches = account-sizes (account_of_start edges) refl batches
 
--- ids with more names are those ids, and others behind them
-names-behind : (ids named : List ℕ) → (more : List ℕ) × (with_names ids named ≡ ids ++ more)
-names-behind ids [] = ([], sym (append-nil ids))
-names-behind ids (n ∷ named) = elim (cases_Bool (is_member nat_eq ids n)) [
-  | inl known ↦
-      let (more, is) = names-behind ids named in
-      (more, ap (λ (l : List ℕ). with_names l named) (name-known ids n known) ∙ is)
-  | inr new ↦
-      let (more, is) = names-behind (ids ++ n ∷ []) named in
-      (n ∷ more, ap (λ (l : List ℕ). with_names l named) (name-new ids n new) ∙ is ∙ append_assoc ids (n ∷ []) more)
-]
-
--- and none of them stands there twice
-names-once : (ids named : List ℕ) → Distinct ids → Distinct (with_names ids named)
-names-once ids [] once = once
-names-once ids (n ∷ named) once = elim (cases_Bool (is_member nat_eq ids n)) [
-  | inl known ↦ subst (λ (l : List ℕ). Distinct (with_names l named)) (sym (name-known ids n known)) (names-once ids named once)
-  | inr new ↦ subst (λ (l : List ℕ). Distinct (with_names l named)) (sym (name-new ids n new))
-      (names-once (ids ++ n ∷ []) named (Distinct-push ids n once new))
-]
+-- a batch without changes leaves the graph as it was
+pub nothing-changes : (account : Account) → account.graph.size ≡ length account.ids → (with_batch account []).graph ≡ account.graph
+nothing-changes account size =
+    graph_after_batch-nil (with_vertices (length account.ids) account.graph) ∙ ap (λ (n : ℕ). with_vertices n account.graph) (sym size)
 
 -- no id was named twice
 pub ids-once : (told : Told) → Distinct (ids_of told)

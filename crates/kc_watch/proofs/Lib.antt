@@ -1,5 +1,6 @@
 pub mod Accounts
 pub mod Changing
+pub mod Dropping
 pub mod Ended
 pub mod Entering
 pub mod Fed

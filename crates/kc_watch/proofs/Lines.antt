@@ -1,8 +1,8 @@
 -- What one line is answered, and what it leaves of what is kept.
 use Rattle.std.proofs.Common.{◌≡◌, ◌≢◌, ℕ, Bool, true, false, cond, List, [], ◌∷◌, ◌++◌, refl, sym, ap, ap₂, ◌∙◌, subst}
-use Rattle.std.proofs.Common.{append_assoc, append-nil, Option, Some, None}
-use Rattle.std.specs.Prelude.{IsErr, OnErr, OnOk, Result, Ok, Err, is_some}
-use Rattle.std.proofs.lemmas.Bool.{true≢false}
+use Rattle.std.proofs.Common.{append_assoc, append-nil, inl, inr, Option, Some, None}
+use Rattle.std.specs.Prelude.{IsErr, OnErr, OnOk, Result, Ok, Err, is_some, not}
+use Rattle.std.proofs.lemmas.Bool.{cases_Bool, true≢false}
 use Rattle.kc_dialogue.specs.Replies.{IsPrefixOf}
 use Rattle.kc_text.specs.declared.change.ChangeLine.{ChangeLine}
 use Rattle.kc_text.specs.declared.kind.Kind.{Kind}
@@ -12,13 +12,15 @@ use Rattle.kc_text.specs.declared.line.TextLine.TheVariants as said
 use Rattle.kc_text.specs.declared.refusal.Refusal.{Refusal}
 use Rattle.kc_text.specs.Meaning.{Told, or_else, unfit, with_line}
 use Rattle.kc_stream.specs.Gathering.{Gathers}
-use Rattle.kc_stream.specs.Hearing.{Heard, hear, hear_all, hear_told, judged, passed_limit, refused, told_by}
+use Rattle.kc_stream.specs.declared.bad_lines.BadLines.{BadLines}
+use Rattle.kc_stream.specs.declared.bad_lines.BadLines.TheVariants as on_bad
+use Rattle.kc_stream.specs.Hearing.{Heard, batch_dropped, hear, hear_all, hear_told, judged, passed, passed_limit, refuse, refused, stopped, told_by}
 use Rattle.kc_stream.specs.declared.question.Question.{Question}
 use Rattle.kc_stream.specs.declared.stream_line.StreamLine.{StreamLine}
 use Rattle.kc_stream.specs.declared.stream_line.StreamLine.TheVariants.{Tells, Asks}
 use Rattle.kc_lists.proofs.Results.{none-from}
-use Rattle.kc_stream.proofs.Reading.{hear-append, hear-judged, hear-refused}
-use Rattle.kc_watch.specs.Text.{answer_behind, answers_behind, line_answer, open_text, question_answer, told_answer}
+use Rattle.kc_stream.proofs.Reading.{hear-append, hear-judged, hear-passed, hear-refused}
+use Rattle.kc_watch.specs.Text.{answer_behind, answers_behind, ending_text, line_answer, question_answer, told_answer}
 use Rattle.kc_watch.specs.Watching.{KeepsAccount, StandsAt}
 use Rattle.kc_watch.specs.declared.course.Course.{Course}
 use Rattle.kc_watch.specs.declared.kept.Kept.{Kept}
@@ -66,18 +68,40 @@ keeps-same None ended told (said.Change c) other fine (last, count) = absurd (cl
 keeps-same (Some kept) ended told (said.Change c) other fine (some, graph, count) = (refl, graph, count)
 keeps-same kept ended told (said.Wrong kind) other fine k = k
 
--- so it does where the line is judged
-judged-keeps : (kept : Option Kept) (ended : ℕ) (heard : Heard) (line : TextLine) (cause : Option Kind) → line ≢ said.Batch
-    → refused heard.told line ≡ cause → KeepsAccount kept ended heard.told → KeepsAccount kept ended (judged heard line cause).told
-judged-keeps kept ended heard line None other is k = keeps-same kept ended heard.told line other is k
-judged-keeps kept ended heard line (Some kind) other is k = k
+-- so it does behind a line that is refused
+refuse-keeps : (kept : Option Kept) (ended : ℕ) (how : BadLines) (heard : Heard) (refusal : Refusal) → KeepsAccount kept ended heard.told
+    → KeepsAccount kept ended (refuse how heard refusal).told
+refuse-keeps kept ended on_bad.Stop heard refusal k = k
+refuse-keeps None ended on_bad.Batch heard refusal k =
+    subst (λ (t : Told). KeepsAccount None ended t)
+    (sym (ap (λ (l : Option (List ChangeLine)). let h : Heard = cond (not (is_some l)) (stopped heard refusal) (batch_dropped heard refusal) in h.told) k.0)) k
+refuse-keeps (Some kept) ended on_bad.Batch heard refusal (some, graph, count) =
+    subst (λ (t : Told). KeepsAccount (Some kept) ended t)
+    (sym (ap (λ (b : Bool). let h : Heard = cond (not b) (stopped heard refusal) (batch_dropped heard refusal) in h.told) some)) (refl, graph, count)
+
+-- and behind one that is judged
+judged-keeps : (kept : Option Kept) (ended : ℕ) (how : BadLines) (heard : Heard) (line : TextLine) (cause : Option Kind) → line ≢ said.Batch
+    → refused heard.told line ≡ cause → KeepsAccount kept ended heard.told → KeepsAccount kept ended (judged how heard line cause).told
+judged-keeps kept ended how heard line None other is k = keeps-same kept ended heard.told line other is k
+judged-keeps kept ended how heard line (Some kind) other is k = refuse-keeps kept ended how heard _ k
+
+-- and behind one that is passed over
+passed-keeps : (kept : Option Kept) (ended : ℕ) (heard : Heard) (line : TextLine) → line ≢ said.Batch → KeepsAccount kept ended heard.told
+    → KeepsAccount kept ended (passed heard line).told
+passed-keeps kept ended heard said.Nothing other k = k
+passed-keeps kept ended heard (said.Edge a b) other k = k
+passed-keeps kept ended heard said.Batch other k = absurd (other refl)
+passed-keeps kept ended heard (said.Change c) other k = k
+passed-keeps kept ended heard (said.Wrong kind) other k = k
 
 -- What is kept stays right behind a line that is no batch line.
-pub other-keeps : (kept : Option Kept) (ended : ℕ) (heard : Heard) (line : TextLine) → heard.refusal ≡ None → line ≢ said.Batch
-    → KeepsAccount kept ended heard.told → KeepsAccount kept ended (hear_told heard line).told
-other-keeps kept ended heard line none other k =
-    subst (λ (h : Heard). KeepsAccount kept ended h.told) (sym (hear-judged heard line none))
-    (judged-keeps kept ended heard line (refused heard.told line) other refl k)
+pub other-keeps : (kept : Option Kept) (ended : ℕ) (how : BadLines) (heard : Heard) (line : TextLine) → heard.refusal ≡ None → line ≢ said.Batch
+    → KeepsAccount kept ended heard.told → KeepsAccount kept ended (hear_told how heard line).told
+other-keeps kept ended how heard line none other k = elim (cases_Bool (is_some heard.dropped)) [
+  | inl some ↦ subst (λ (h : Heard). KeepsAccount kept ended h.told) (sym (hear-passed how heard line none some)) (passed-keeps kept ended heard line other k)
+  | inr going ↦ subst (λ (h : Heard). KeepsAccount kept ended h.told) (sym (hear-judged how heard line none (none-from heard.dropped going)))
+      (judged-keeps kept ended how heard line (refused heard.told line) other refl k)
+]
 
 -- what holds where a call gave an error, and where it did not
 pub on-err : {A E : Type 0} (r : Result A E) (P Q : Type 0) → IsErr r → Q → OnOk r P × OnErr r Q
@@ -88,20 +112,27 @@ pub on-both : {A E : Type 0} (r : Result A E) (P Q : Type 0) → P → Q → OnO
 on-both (Ok a) P Q p q = (p, tt)
 on-both (Err x) P Q p q = (tt, q)
 
--- where no line is refused none was
+-- what was put whole, or not at all, begins what was to be put
+pub dropped-put : {A E : Type 0} (r : Result A E) (text put : List ℕ) → OnOk r (put ≡ text) × OnErr r (put ≡ [])
+    → OnOk r (put ≡ text) × OnErr r (IsPrefixOf text put)
+dropped-put (Ok a) text put (is, none) = (is, tt)
+dropped-put (Err x) text put (is, none) = (tt, subst (IsPrefixOf text) (sym none) (prefix-none text))
+
+-- where no line has ended the reading, none was to
 pub going-heard : (course : Course) (heard : Heard) → StandsAt course heard → is_some course.gathered.refusal ≡ false → heard.refusal ≡ None
 going-heard course heard s going = sym s.gathers.refusal ∙ none-from course.gathered.refusal going
 
 -- a line was gathered that tells no batch line
-pub other-stands : (old new : Course) (line : TextLine) → line ≢ said.Batch → old.gathered.refusal ≡ None → new.kept ≡ old.kept → new.ended ≡ old.ended
-    → (heard : Heard) → StandsAt old heard → Gathers new.gathered (hear_told heard line) → StandsAt new (hear_told heard line)
-other-stands old new line other going kept ended heard s gathers =
+pub other-stands : (old new : Course) (how : BadLines) (line : TextLine) → line ≢ said.Batch → old.gathered.refusal ≡ None → new.kept ≡ old.kept
+    → new.ended ≡ old.ended
+    → (heard : Heard) → StandsAt old heard → Gathers new.gathered (hear_told how heard line) → StandsAt new (hear_told how heard line)
+other-stands old new how line other going kept ended heard s gathers =
     let none : heard.refusal ≡ None = sym s.gathers.refusal ∙ going in
     record {
       gathers = gathers;
-      keeps = λ _. subst (λ (o : Option Kept). KeepsAccount o new.ended (hear_told heard line).told) (sym kept)
-          (subst (λ (n : ℕ). KeepsAccount old.kept n (hear_told heard line).told) (sym ended)
-          (other-keeps old.kept old.ended heard line none other (s.keeps none)));
+      keeps = λ _. subst (λ (o : Option Kept). KeepsAccount o new.ended (hear_told how heard line).told) (sym kept)
+          (subst (λ (n : ℕ). KeepsAccount old.kept n (hear_told how heard line).told) (sym ended)
+          (other-keeps old.kept old.ended how heard line none other (s.keeps none)));
     }
 
 -- a question tells no batch line
@@ -112,35 +143,36 @@ no-batch_line told question = elim (is_some told.last) as (λ (b : Bool). cond b
 ]
 
 -- a question was gathered
-pub asked-stands : (old new : Course) (question : Question) → old.gathered.refusal ≡ None → new.kept ≡ old.kept → new.ended ≡ old.ended
-    → ((heard : Heard) → Gathers old.gathered heard → Gathers new.gathered (hear heard (Asks question)))
-    → (heard : Heard) → StandsAt old heard → StandsAt new (hear heard (Asks question))
-asked-stands old new question going kept ended gathers heard s =
-    other-stands old new (told_by heard.told (Asks question)) (no-batch_line heard.told question) going kept ended heard s (gathers heard s.gathers)
+pub asked-stands : (old new : Course) (how : BadLines) (question : Question) → old.gathered.refusal ≡ None → new.kept ≡ old.kept → new.ended ≡ old.ended
+    → ((heard : Heard) → Gathers old.gathered heard → Gathers new.gathered (hear how heard (Asks question)))
+    → (heard : Heard) → StandsAt old heard → StandsAt new (hear how heard (Asks question))
+asked-stands old new how question going kept ended gathers heard s =
+    other-stands old new how (told_by heard.told (Asks question)) (no-batch_line heard.told question) going kept ended heard s (gathers heard s.gathers)
 
 -- one line more was read of several
-pub read-more : (heard : Heard) (done : List StreamLine) (line : StreamLine) → hear_all heard (done ++ line ∷ []) ≡ hear (hear_all heard done) line
-read-more heard done line = hear-append heard done (line ∷ [])
+pub read-more : (how : BadLines) (heard : Heard) (done : List StreamLine) (line : StreamLine)
+    → hear_all how heard (done ++ line ∷ []) ≡ hear how (hear_all how heard done) line
+read-more how heard done line = hear-append how heard done (line ∷ [])
 
 module _ (options : WatchOptions) where
   -- a line that tells no batch line is answered nothing
-  other-answer : (told : Told) (line : TextLine) → line ≢ said.Batch → told_answer options told line ≡ []
-  other-answer told said.Nothing other = refl
-  other-answer told (said.Edge a b) other = refl
-  other-answer told said.Batch other = absurd (other refl)
-  other-answer told (said.Change c) other = refl
-  other-answer told (said.Wrong kind) other = refl
+  other-answer : (dropped : Option Refusal) (told : Told) (line : TextLine) → line ≢ said.Batch → told_answer options dropped told line ≡ []
+  other-answer dropped told said.Nothing other = refl
+  other-answer dropped told (said.Edge a b) other = refl
+  other-answer dropped told said.Batch other = absurd (other refl)
+  other-answer dropped told (said.Change c) other = refl
+  other-answer dropped told (said.Wrong kind) other = refl
 
   -- so it is behind others
   pub other-behind : (heard : Heard) (line : TextLine) → line ≢ said.Batch → answer_behind options heard (Tells line) ≡ []
-  other-behind heard line other = elim (is_some heard.refusal) as (λ (b : Bool). cond b [] (told_answer options heard.told line) ≡ []) [
+  other-behind heard line other = elim (is_some heard.refusal) as (λ (b : Bool). cond b [] (told_answer options heard.dropped heard.told line) ≡ []) [
     | true ↦ refl
-    | false ↦ other-answer heard.told line other
+    | false ↦ other-answer heard.dropped heard.told line other
   ]
 
   -- behind a line that is refused none is answered
   refused-behind : (heard : Heard) (line : StreamLine) → is_some heard.refusal ≡ true → answer_behind options heard line ≡ []
-  refused-behind heard line some = ap (λ (b : Bool). cond b [] (line_answer options heard.told line)) some
+  refused-behind heard line some = ap (λ (b : Bool). cond b [] (line_answer options heard.dropped heard.told line)) some
 
   -- a course of which a line is refused answers none
   pub refused-put : (course : Course) (heard : Heard) (line : StreamLine) → StandsAt course heard → is_some course.gathered.refusal ≡ true
@@ -148,8 +180,8 @@ module _ (options : WatchOptions) where
   refused-put course heard line s some = refused-behind heard line (ap is_some (sym s.gathers.refusal) ∙ some)
 
   -- where no line was refused, a batch line is answered the text of what was open
-  pub batch-answer : (heard : Heard) → heard.refusal ≡ None → answer_behind options heard (Tells said.Batch) ≡ open_text options heard.told
-  batch-answer heard none = ap (λ (r : Option Refusal). cond (is_some r) [] (open_text options heard.told)) none
+  pub batch-answer : (heard : Heard) → heard.refusal ≡ None → answer_behind options heard (Tells said.Batch) ≡ ending_text options heard.dropped heard.told
+  batch-answer heard none = ap (λ (r : Option Refusal). cond (is_some r) [] (ending_text options heard.dropped heard.told)) none
 
   -- where no line was refused, a question is answered
   pub question-behind : (heard : Heard) (question : Question) → heard.refusal ≡ None
@@ -158,33 +190,35 @@ module _ (options : WatchOptions) where
 
   -- what lines are answered, and others behind them
   pub answers-append : (heard : Heard) (xs ys : List StreamLine)
-      → answers_behind options heard (xs ++ ys) ≡ answers_behind options heard xs ++ answers_behind options (hear_all heard xs) ys
+      → answers_behind options heard (xs ++ ys) ≡ answers_behind options heard xs ++ answers_behind options (hear_all options.bad_lines heard xs) ys
   answers-append heard [] ys = refl
   answers-append heard (x ∷ xs) ys =
-      ap (λ (t : List ℕ). answer_behind options heard x ++ t) (answers-append (hear heard x) xs ys)
-      ∙ sym (append_assoc (answer_behind options heard x) (answers_behind options (hear heard x) xs) (answers_behind options (hear_all (hear heard x) xs) ys))
+      ap (λ (t : List ℕ). answer_behind options heard x ++ t) (answers-append (hear options.bad_lines heard x) xs ys)
+      ∙ sym (append_assoc (answer_behind options heard x) (answers_behind options (hear options.bad_lines heard x) xs)
+      (answers_behind options (hear_all options.bad_lines (hear options.bad_lines heard x) xs) ys))
 
   -- what lines are answered with one more
   pub answers-more : (heard : Heard) (done : List StreamLine) (line : StreamLine)
-      → answers_behind options heard (done ++ line ∷ []) ≡ answers_behind options heard done ++ answer_behind options (hear_all heard done) line
+      → answers_behind options heard (done ++ line ∷ [])
+      ≡ answers_behind options heard done ++ answer_behind options (hear_all options.bad_lines heard done) line
   answers-more heard done line =
       answers-append heard done (line ∷ [])
-      ∙ ap (λ (t : List ℕ). answers_behind options heard done ++ t) (append-nil (answer_behind options (hear_all heard done) line))
+      ∙ ap (λ (t : List ℕ). answers_behind options heard done ++ t) (append-nil (answer_behind options (hear_all options.bad_lines heard done) line))
 
   -- behind a line that is refused nothing is answered
   pub answers-none : (heard : Heard) (lines : List StreamLine) → is_some heard.refusal ≡ true → answers_behind options heard lines ≡ []
   answers-none heard [] some = refl
   answers-none heard (line ∷ lines) some =
       ap₂ (λ (a b : List ℕ). a ++ b) (refused-behind heard line some)
-      (ap (λ (h : Heard). answers_behind options h lines) (hear-refused heard line some) ∙ answers-none heard lines some)
+      (ap (λ (h : Heard). answers_behind options h lines) (hear-refused options.bad_lines heard line some) ∙ answers-none heard lines some)
 
   -- what was put for some lines begins what all are answered, also where memory ended at the next one
   pub stopped-prefix : (heard : Heard) (done rest : List StreamLine) (line : StreamLine) (put more : List ℕ) → put ≡ answers_behind options heard done
-      → IsPrefixOf (answer_behind options (hear_all heard done) line) more
+      → IsPrefixOf (answer_behind options (hear_all options.bad_lines heard done) line) more
       → IsPrefixOf (answers_behind options heard (done ++ line ∷ rest)) (put ++ more)
   stopped-prefix heard done rest line put more is (left, begins) =
-      let now : Heard = hear_all heard done in
-      let behind : List ℕ = answers_behind options (hear now line) rest in (
+      let now : Heard = hear_all options.bad_lines heard done in
+      let behind : List ℕ = answers_behind options (hear options.bad_lines now line) rest in (
         left ++ behind,
         answers-append heard done (line ∷ rest)
             ∙ ap₂ (λ (a b : List ℕ). a ++ (b ++ behind)) (sym is) begins

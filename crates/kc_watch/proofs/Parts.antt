@@ -23,7 +23,7 @@ use Rattle.kc_watch.specs.Text.{answer_in, batch_text, open_text, part_text, que
 use Rattle.kc_watch.specs.Watching.{KeepsAccount, graph_gathered}
 use Rattle.kc_watch.specs.declared.kept.Kept.{Kept}
 use Rattle.kc_watch.specs.declared.options.WatchOptions.{WatchOptions}
-use Rattle.kc_watch.proofs.Accounts.{account-batch, account-size, batch-made, ids-are, ids-grown, ids-once, no-batches, vertices-few}
+use Rattle.kc_watch.proofs.Accounts.{account-batch, account-size, batch-made, ids-are, ids-grown, ids-once, no-batches, nothing-changes, vertices-few}
 
 module _ (gathered : Gathered) (told : Told) (h : Holds gathered told) where
   -- the graph of the start is the one that was gathered
@@ -130,3 +130,27 @@ module _ (gathered : Gathered) (told : Told) (h : Holds gathered told) where
   pub question-none : (ended : ℕ) (question : Question) → KeepsAccount None ended told → question_answer told question ≡ []
   question-none ended question k =
       ap (λ (l : Option (List ChangeLine)). cond (is_some l) (answer_in (account_of told.edges told.earlier) question) []) k.0
+
+-- a batch that is dropped has ended: the graph is kept as it was, and the batch is counted
+pub dropped-keeps : (told : Told) (kept : Option Kept) (ended number : ℕ) → told.last ≡ Some [] → number ≡ one_ended ended → KeepsAccount kept ended told
+    → KeepsAccount kept number (with_line told said.Batch)
+dropped-keeps told None ended number empty counted k = absurd (clash (sym k.0 ∙ empty))
+  where
+    clash : {cs : List ChangeLine} → None ≡ Some cs → ⊥
+    clash e = cc
+dropped-keeps told (Some kept) ended number empty counted (some, graph, count) =
+    let before : Account = account_of told.edges told.earlier in
+    let is : account_of told.edges (batches told) ≡ with_batch before [] = account-batch told [] empty in (
+      refl,
+      graph ∙ sym (nothing-changes before (account-size told.edges told.earlier)) ∙ ap (λ (a : Account). a.graph) (sym is),
+      counted ∙ ap one_ended count ∙ ap (λ (a : Account). a.ended) (sym is),
+    )
+
+-- its number is the next one
+pub dropped-number : (told : Told) (kept : Option Kept) (ended : ℕ) → told.last ≡ Some [] → KeepsAccount kept ended told
+    → one_ended ended ≡ one_ended (account_of told.edges told.earlier).ended
+dropped-number told None ended empty k = absurd (clash (sym k.0 ∙ empty))
+  where
+    clash : {cs : List ChangeLine} → None ≡ Some cs → ⊥
+    clash e = cc
+dropped-number told (Some kept) ended empty (some, graph, count) = ap one_ended count

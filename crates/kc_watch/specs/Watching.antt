@@ -29,16 +29,19 @@ pub record StandsAt (course : Course) (heard : Heard) : Type 0 where
   pub gathers : Gathers course.gathered heard
   pub keeps : heard.refusal ≡ None → KeepsAccount course.kept course.ended heard.told
 
--- A watcher was fed these bytes: it has read lines that have ended, and keeps the bytes behind, which are of an open line. Where a line is
--- refused, nothing is kept of the bytes behind it.
+-- A watcher was fed these bytes: it has read lines that have ended, and keeps the bytes behind, which are of an open line. Where a line ends
+-- the reading, nothing is kept of the bytes behind it.
 pub record WasFed (watcher : Watcher) (fed : List ℕ) : Type 0 where
   pub done : List ℕ
   pub rest : List ℕ
   pub parts : fed ≡ done ++ rest
   pub ended : EndsLine done
-  pub stands : StandsAt watcher.course (hear_all nothing_heard (stream_lines done))
+  pub stands : StandsAt watcher.course (hear_all watcher.options.bad_lines nothing_heard (stream_lines done))
   pub begun : watcher.course.gathered.refusal ≡ None → (watcher.begun.items ≡ rest) × IsOpen rest
 
--- A watcher was fed these bytes, and then the stream has ended: it has the first line of them that is refused, if there is one.
+-- A watcher was fed these bytes, and then the stream has ended: it has the line of them that ends the reading, if one does, and counts the
+-- batches that were dropped.
 abbrev pub HasEnded : Watcher → List ℕ → Type 0
-HasEnded watcher fed = watcher.course.gathered.refusal ≡ (heard_at_end fed).refusal
+HasEnded watcher fed =
+    (watcher.course.gathered.refusal ≡ (heard_at_end watcher.options.bad_lines fed).refusal)
+    × (watcher.course.gathered.refused_batches ≡ (heard_at_end watcher.options.bad_lines fed).refused_batches)

@@ -1,5 +1,5 @@
 //! What is kept of a stream from line to line: what was gathered, and the keeper of the graph behind the batches that have ended.
-ghost use Rattle.std.specs.Prelude.{◌≡◌, ◌++◌, [], None, List, ℕ, OnErr, OnOk};
+ghost use Rattle.std.specs.Prelude.{◌≡◌, ◌++◌, [], None, Some, List, ℕ, OnErr, OnOk};
 ghost use Rattle.kc_dialogue.specs.Replies.{IsPrefixOf};
 ghost use Rattle.kc_text.specs.Meaning.{Told, with_line};
 ghost use Rattle.kc_text.specs.declared.line.TextLine.TheVariants as said;
@@ -7,13 +7,15 @@ ghost use Rattle.kc_stream.specs.Asking.{stream_lines};
 ghost use Rattle.kc_stream.specs.Gathering.{Holds};
 ghost use Rattle.kc_stream.specs.Hearing.{Heard, hear, hear_all, nothing_heard};
 ghost use Rattle.kc_stream.specs.declared.stream_line.StreamLine.TheVariants as says;
-ghost use Rattle.kc_watch.specs.Text.{answer_behind, answers_behind, open_text, question_answer};
+ghost use Rattle.kc_watch.specs.Text.{answer_behind, answers_behind, ending_text, open_text, question_answer, refused_line};
+ghost use Rattle.kc_watch.specs.Accounts.{account_of, one_ended};
 ghost use Rattle.kc_watch.specs.Watching.{KeepsAccount, StandsAt};
 ghost use Rattle.kc_watch.specs.declared.options.WatchOptions.{WatchOptions};
 
 use crate::NoMemory;
 use crate::kept::Kept;
 use crate::options::WatchOptions;
+use crate::refused::put_refused;
 use crate::start::end_start;
 use kc_stream::{Gathered, Question, StreamLine, read_stream_line};
 use kc_text::{Refusal, TextLine, cut_line};
@@ -25,7 +27,7 @@ pub(crate) struct Course {
     gathered: Gathered,
     /// The graph behind the batches that have ended, once there was a batch line.
     kept: Option<Kept>,
-    /// How many batches have ended, up to the greatest number.
+    /// How many batches have ended, refused ones among them, up to the greatest number.
     ended: u32,
 }
 
@@ -40,15 +42,22 @@ impl Course {
         }
     }
 
-    /// The first line that is refused.
+    /// The refused line that ends the reading.
     pub(crate) fn refusal(&self) -> Option<Refusal>
         ensures { result ≡ self.now.gathered.refusal }
     {
         self.gathered.refusal()
     }
 
+    /// How many batches were dropped.
+    pub(crate) fn refused_batches(&self) -> u64
+        ensures { result ≡ self.now.gathered.refused_batches }
+    {
+        self.gathered.refused_batches()
+    }
+
     /// Ends what is open, the start or a batch, and puts its text. Where there is no memory, nothing is put.
-    pub(crate) fn end_part(
+    fn end_part(
         &mut self,
         alloc: Global,
         options: WatchOptions,
@@ -73,6 +82,48 @@ impl Course {
         Ok(())
     }
 
+    /// Ends a batch that is dropped, and puts the line about it. Where there is no memory, nothing is put.
+    fn end_dropped(
+        &mut self,
+        alloc: Global,
+        refusal: Refusal,
+        out: &mut Vec<u8>,
+    ) -> Result<(), NoMemory>
+        ensures gathered { self.new.gathered ≡ self.old.gathered }
+        ensures keeps { OnOk result ((told : Told) → told.last ≡ Some [] → KeepsAccount self.old.kept self.old.ended told
+            → KeepsAccount self.new.kept self.new.ended (with_line told said.Batch)) }
+        ensures put { (put : List ℕ) × (out.new.items ≡ out.old.items ++ put)
+            × ((told : Told) → told.last ≡ Some [] → KeepsAccount self.old.kept self.old.ended told
+            → OnOk result (put ≡ refused_line (one_ended (account_of told.edges told.earlier).ended) refusal) × OnErr result (put ≡ [])) }
+    {
+        let number = self.ended.saturating_add(1);
+        put_refused(alloc, number, refusal, out)?;
+        self.ended = number;
+        Ok(())
+    }
+
+    /// Ends what is open, and puts its text, or the line about a batch that is dropped. Where there is no memory, nothing is put.
+    pub(crate) fn end_open(
+        &mut self,
+        alloc: Global,
+        options: WatchOptions,
+        out: &mut Vec<u8>,
+    ) -> Result<(), NoMemory>
+        requires going { self.old.gathered.refusal ≡ None }
+        requires stands { (heard : Heard) × StandsAt self.old heard }
+        ensures gathered { self.new.gathered ≡ self.old.gathered }
+        ensures keeps { OnOk result ((heard : Heard) → StandsAt self.old heard
+            → KeepsAccount self.new.kept self.new.ended (with_line heard.told said.Batch)) }
+        ensures put { (put : List ℕ) × (out.new.items ≡ out.old.items ++ put) × ((heard : Heard) → StandsAt self.old heard
+            → OnOk result (put ≡ ending_text options heard.dropped heard.told)
+            × OnErr result (IsPrefixOf (ending_text options heard.dropped heard.told) put)) }
+    {
+        match self.gathered.dropped() {
+            None => self.end_part(alloc, options, out),
+            Some(refusal) => self.end_dropped(alloc, refusal, out),
+        }
+    }
+
     /// Reads a batch line, which ends what stands before it.
     fn take_batch(
         &mut self,
@@ -82,14 +133,13 @@ impl Course {
     ) -> Result<(), NoMemory>
         requires going { self.old.gathered.refusal ≡ None }
         requires stands { (heard : Heard) × StandsAt self.old heard }
-        ensures stands { OnOk result ((heard : Heard) → StandsAt self.old heard → StandsAt self.new (hear heard (says.Tells said.Batch))) }
+        ensures stands { OnOk result ((heard : Heard) → StandsAt self.old heard → StandsAt self.new (hear options.bad_lines heard (says.Tells said.Batch))) }
         ensures put { (put : List ℕ) × (out.new.items ≡ out.old.items ++ put) × ((heard : Heard) → StandsAt self.old heard
             → OnOk result (put ≡ answer_behind options heard (says.Tells said.Batch))
             × OnErr result (IsPrefixOf (answer_behind options heard (says.Tells said.Batch)) put)) }
     {
-        self.end_part(alloc, options, out)?;
-        self.gathered
-            .take(alloc, StreamLine::Tells(TextLine::Batch))
+        self.end_open(alloc, options, out)?;
+        self.gathered.take(alloc, options.bad_lines, StreamLine::Tells(TextLine::Batch))
     }
 
     /// Reads a line that tells, and puts what it is answered.
@@ -102,14 +152,16 @@ impl Course {
     ) -> Result<(), NoMemory>
         requires going { self.old.gathered.refusal ≡ None }
         requires stands { (heard : Heard) × StandsAt self.old heard }
-        ensures stands { OnOk result ((heard : Heard) → StandsAt self.old heard → StandsAt self.new (hear heard (says.Tells told))) }
+        ensures stands { OnOk result ((heard : Heard) → StandsAt self.old heard → StandsAt self.new (hear options.bad_lines heard (says.Tells told))) }
         ensures put { (put : List ℕ) × (out.new.items ≡ out.old.items ++ put) × ((heard : Heard) → StandsAt self.old heard
             → OnOk result (put ≡ answer_behind options heard (says.Tells told))
             × OnErr result (IsPrefixOf (answer_behind options heard (says.Tells told)) put)) }
     {
         match told {
             TextLine::Batch => self.take_batch(alloc, options, out),
-            _ => self.gathered.take(alloc, StreamLine::Tells(told)),
+            _ => self
+                .gathered
+                .take(alloc, options.bad_lines, StreamLine::Tells(told)),
         }
     }
 
@@ -131,21 +183,23 @@ impl Course {
     fn take_question(
         &mut self,
         alloc: Global,
+        options: WatchOptions,
         question: Question,
         out: &mut Vec<u8>,
     ) -> Result<(), NoMemory>
         requires going { self.old.gathered.refusal ≡ None }
         requires stands { (heard : Heard) × StandsAt self.old heard }
-        ensures stands { OnOk result ((heard : Heard) → StandsAt self.old heard → StandsAt self.new (hear heard (says.Asks question))) }
-        ensures put { (put : List ℕ) × (out.new.items ≡ out.old.items ++ put) × ((options : WatchOptions) (heard : Heard) → StandsAt self.old heard
+        ensures stands { OnOk result ((heard : Heard) → StandsAt self.old heard → StandsAt self.new (hear options.bad_lines heard (says.Asks question))) }
+        ensures put { (put : List ℕ) × (out.new.items ≡ out.old.items ++ put) × ((heard : Heard) → StandsAt self.old heard
             → OnOk result (put ≡ answer_behind options heard (says.Asks question))
             × OnErr result (IsPrefixOf (answer_behind options heard (says.Asks question)) put)) }
     {
         self.answer(alloc, question, out)?;
-        self.gathered.take(alloc, StreamLine::Asks(question))
+        self.gathered
+            .take(alloc, options.bad_lines, StreamLine::Asks(question))
     }
 
-    /// Reads one line more, and puts what it is answered. Behind a line that is refused none is read.
+    /// Reads one line more, and puts what it is answered. Behind a line that ends the reading none is read.
     fn take(
         &mut self,
         alloc: Global,
@@ -154,7 +208,7 @@ impl Course {
         out: &mut Vec<u8>,
     ) -> Result<(), NoMemory>
         requires stands { (heard : Heard) × StandsAt self.old heard }
-        ensures stands { OnOk result ((heard : Heard) → StandsAt self.old heard → StandsAt self.new (hear heard line)) }
+        ensures stands { OnOk result ((heard : Heard) → StandsAt self.old heard → StandsAt self.new (hear options.bad_lines heard line)) }
         ensures put { (put : List ℕ) × (out.new.items ≡ out.old.items ++ put) × ((heard : Heard) → StandsAt self.old heard
             → OnOk result (put ≡ answer_behind options heard line) × OnErr result (IsPrefixOf (answer_behind options heard line) put)) }
     {
@@ -163,7 +217,7 @@ impl Course {
         }
         match line {
             StreamLine::Tells(told) => self.take_told(alloc, options, told, out),
-            StreamLine::Asks(question) => self.take_question(alloc, question, out),
+            StreamLine::Asks(question) => self.take_question(alloc, options, question, out),
         }
     }
 
@@ -176,7 +230,8 @@ impl Course {
         out: &mut Vec<u8>,
     ) -> Result<(), NoMemory>
         requires stands { (heard : Heard) × StandsAt self.old heard }
-        ensures stands { OnOk result ((heard : Heard) → StandsAt self.old heard → StandsAt self.new (hear_all heard (stream_lines bytes.now))) }
+        ensures stands { OnOk result ((heard : Heard) → StandsAt self.old heard
+            → StandsAt self.new (hear_all options.bad_lines heard (stream_lines bytes.now))) }
         ensures put { (put : List ℕ) × (out.new.items ≡ out.old.items ++ put) × ((heard : Heard) → StandsAt self.old heard
             → OnOk result (put ≡ answers_behind options heard (stream_lines bytes.now))
             × OnErr result (IsPrefixOf (answers_behind options heard (stream_lines bytes.now)) put)) }

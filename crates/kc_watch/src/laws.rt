@@ -1,10 +1,14 @@
 //! What holds of the text that answers a stream, as laws over the definitions alone. A law is a function without a body, whose contract is
 //! the law.
-ghost use Rattle.std.specs.Prelude.{◌≡◌, ◌≤◌, ◌<◌, ◌↔◌, [], List, ℕ, slice_index};
+ghost use Rattle.std.specs.Prelude.{◌≡◌, ◌≤◌, ◌<◌, ◌↔◌, ◌++◌, ◌∷◌, [], List, None, Option, ℕ, slice_index};
 ghost use Rattle.kc_graph.specs.Core.{AreCoreNumbers, IsInCore};
 ghost use Rattle.kc_graph.specs.SimpleGraph.{SimpleGraph};
-ghost use Rattle.kc_watch.specs.Accounts.{core_numbers_of};
-ghost use Rattle.kc_watch.specs.Text.{reply};
+ghost use Rattle.kc_text.specs.declared.change.ChangeLine.{ChangeLine};
+ghost use Rattle.kc_changes.specs.declared.show.Show.{Show};
+ghost use Rattle.kc_stream.specs.Hearing.{heard_at_end, heard_so_far};
+ghost use Rattle.kc_stream.specs.declared.bad_lines.BadLines.TheVariants as on_bad;
+ghost use Rattle.kc_watch.specs.Accounts.{account_of, core_numbers_of, one_ended};
+ghost use Rattle.kc_watch.specs.Text.{reply, reply_at_end};
 ghost use Rattle.kc_watch.specs.declared.options.WatchOptions.{WatchOptions};
 
 /// Each graph has its core numbers, and no other list of numbers is its core numbers.
@@ -21,4 +25,31 @@ pub fn the_core_has_who_has_its_number()
 /// To no bytes nothing is answered.
 pub fn nothing_is_answered_to_nothing()
     ensures { (options : WatchOptions) → reply options [] ≡ [] }
+{}
+
+/// A batch that is dropped stands among the batches as one without changes. So the ids and the graph behind it are those before it, and it is
+/// counted.
+pub fn a_dropped_batch_changes_nothing()
+    ensures ids { (edges : List (ℕ × ℕ)) (earlier : List (List ChangeLine))
+        → (account_of edges (earlier ++ [] ∷ [])).ids ≡ (account_of edges earlier).ids }
+    ensures graph { (edges : List (ℕ × ℕ)) (earlier : List (List ChangeLine))
+        → (account_of edges (earlier ++ [] ∷ [])).graph ≡ (account_of edges earlier).graph }
+    ensures counted { (edges : List (ℕ × ℕ)) (earlier : List (List ChangeLine))
+        → (account_of edges (earlier ++ [] ∷ [])).ended ≡ one_ended (account_of edges earlier).ended }
+{}
+
+/// Where bad lines end the reading, no batch is dropped.
+pub fn where_bad_lines_stop_no_batch_is_dropped()
+    ensures dropped { (bytes : List ℕ) → (heard_at_end on_bad.Stop bytes).dropped ≡ None }
+    ensures count { (bytes : List ℕ) → (heard_at_end on_bad.Stop bytes).refused_batches ≡ 0 }
+{}
+
+/// As long as no line is refused, it is no matter what becomes of bad lines: the text is the same.
+pub fn without_refused_lines_the_text_is_the_same()
+    ensures so_far { (show : Show) (enter : Option ℕ) (bytes : List ℕ) → (heard_so_far on_bad.Stop bytes).refusal ≡ None
+        → reply (record { show = show; enter = enter; bad_lines = on_bad.Stop }) bytes
+        ≡ reply (record { show = show; enter = enter; bad_lines = on_bad.Batch }) bytes }
+    ensures at_end { (show : Show) (enter : Option ℕ) (bytes : List ℕ) → (heard_at_end on_bad.Stop bytes).refusal ≡ None
+        → reply_at_end (record { show = show; enter = enter; bad_lines = on_bad.Stop }) bytes
+        ≡ reply_at_end (record { show = show; enter = enter; bad_lines = on_bad.Batch }) bytes }
 {}

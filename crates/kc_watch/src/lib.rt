@@ -7,6 +7,8 @@
 //! answer to some bytes is: of the core numbers of the graph before and after each batch (Seidman 1983), and not of what the watcher keeps.
 //! So no line is held back, and none is early.
 //!
+//! A refused line ends the answers, or drops its batch, as [`BadLines`] says: what the batch did is forgotten, and a line tells so in its place.
+//!
 //! What is kept is the graph with its core numbers (`kc_keeper`), the ids and the batch that is open (`kc_stream`): the memory is theirs, and
 //! not that of the stream.
 #![tactic(auto)]
@@ -17,10 +19,12 @@ mod kept;
 pub mod laws;
 mod listing;
 mod options;
+mod refused;
 mod start;
 mod watcher;
 
 pub use kc_changes::Show;
+pub use kc_stream::BadLines;
 pub use options::WatchOptions;
 pub use std::alloc::AllocError as NoMemory;
 pub use watcher::Watcher;

@@ -1,16 +1,19 @@
-//! What a stream is answered beside the lines of its graph and of its batches.
+//! What a stream is answered beside the lines of its graph and of its batches, and what becomes of bad lines.
 ghost use Rattle.std.specs.Prelude.{◌≡◌, None, true};
 ghost use Rattle.kc_changes.specs.declared.show.Show.{Show};
 
 use kc_changes::Show;
+use kc_stream::BadLines;
 
-/// What a stream is answered beside the lines of its graph and of its batches.
+/// What a stream is answered beside the lines of its graph and of its batches, and what becomes of bad lines.
 #[derive(Clone, Copy, Debug, PartialEq, Eq)]
 pub struct WatchOptions {
     /// What is told of core numbers behind a batch.
     pub show: Show,
     /// The level of a core, where it is told who came into it in a batch or left it.
     pub enter: Option<u32>,
+    /// What becomes of a refused line in a batch.
+    pub bad_lines: BadLines,
 }
 
 impl WatchOptions {

@@ -32,9 +32,9 @@ impl Watcher {
     ///
     /// ```rust
     /// use kc_dialogue::replier::Replier;
-    /// use kc_watch::{Show, WatchOptions, Watcher};
+    /// use kc_watch::{BadLines, Show, WatchOptions, Watcher};
     ///
-    /// let options = WatchOptions { show: Show::Changes, enter: Some(2) };
+    /// let options = WatchOptions { show: Show::Changes, enter: Some(2), bad_lines: BadLines::Stop };
     /// let mut watcher = Watcher::new(alloc, options);
     /// let mut out = Vec::new(alloc);
     /// watcher.feed(alloc, b"1 2\n2 3\nbatch\n+ 1 3\n", &mut out)?; // "graph vertices 3 edges 2 top 1\n"
@@ -51,13 +51,21 @@ impl Watcher {
         }
     }
 
-    /// The first line that is refused, with the first check that it fails. Nothing behind it is answered. Bytes behind the last newline are
-    /// a line once the stream has ended.
+    /// The refused line that ends the reading, with the first check that it fails. Nothing behind it is answered. Bytes behind the last
+    /// newline are a line once the stream has ended.
     pub fn refusal(&self) -> Option<Refusal>
-        ensures so_far { (fed : List ℕ) → WasFed self.now fed → result ≡ (heard_so_far fed).refusal }
-        ensures at_end { (fed : List ℕ) → HasEnded self.now fed → result ≡ (heard_at_end fed).refusal }
+        ensures so_far { (fed : List ℕ) → WasFed self.now fed → result ≡ (heard_so_far self.now.options.bad_lines fed).refusal }
+        ensures at_end { (fed : List ℕ) → HasEnded self.now fed → result ≡ (heard_at_end self.now.options.bad_lines fed).refusal }
     {
         self.course.refusal()
+    }
+
+    /// How many batches were dropped, as a line in them is refused.
+    pub fn refused_batches(&self) -> u64
+        ensures so_far { (fed : List ℕ) → WasFed self.now fed → result ≡ (heard_so_far self.now.options.bad_lines fed).refused_batches }
+        ensures at_end { (fed : List ℕ) → HasEnded self.now fed → result ≡ (heard_at_end self.now.options.bad_lines fed).refused_batches }
+    {
+        self.course.refused_batches()
     }
 
     fn flow(&self) -> Flow
@@ -70,7 +78,7 @@ impl Watcher {
         }
     }
 
-    /// Reads the lines that end in some bytes behind those that are kept. No line is refused so far.
+    /// Reads the lines that end in some bytes behind those that are kept. No line has ended the reading so far.
     fn read_ended(&mut self, alloc: Global, whole: &[u8], out: &mut Vec<u8>) -> Result<(), NoMemory>
         requires going { self.old.course.gathered.refusal ≡ None }
         requires ended { EndsLine whole.now }
@@ -95,6 +103,10 @@ impl Watcher {
 }
 
 impl Replier for Watcher {
+    type Settings = WatchOptions;
+
+    ghost settings = { λ watcher. watcher.options };
+
     ghost reply = { λ watcher. reply watcher.options };
 
     ghost reply_at_end = { λ watcher. reply_at_end watcher.options };
@@ -121,6 +133,6 @@ impl Replier for Watcher {
         if self.course.refusal().is_some() {
             return Ok(());
         }
-        self.course.end_part(alloc, self.options, out)
+        self.course.end_open(alloc, self.options, out)
     }
 }

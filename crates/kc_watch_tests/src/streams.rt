@@ -1,7 +1,7 @@
 //! Streams, with what they are answered.
 use kc_dialogue::replier::Replier;
 use kc_text::{Kind, Refusal};
-use kc_watch::{Show, WatchOptions, Watcher};
+use kc_watch::{BadLines, Show, WatchOptions, Watcher};
 use std::process::Abort;
 use std::test::Fail;
 
@@ -9,33 +9,52 @@ use std::test::Fail;
 const BRIEF: WatchOptions = WatchOptions {
     show: Show::Summary,
     enter: None,
+    bad_lines: BadLines::Stop,
 };
 
 /// And each core number that changes.
 const CHANGES: WatchOptions = WatchOptions {
     show: Show::Changes,
     enter: None,
+    bad_lines: BadLines::Stop,
 };
 
 /// And who comes into the 2-core or leaves it.
 const ENTER: WatchOptions = WatchOptions {
     show: Show::Summary,
     enter: Some(2),
+    bad_lines: BadLines::Stop,
 };
 
 /// And both.
 const BOTH: WatchOptions = WatchOptions {
     show: Show::Changes,
     enter: Some(1),
+    bad_lines: BadLines::Stop,
 };
 
-/// What a stream is answered that comes in pieces of a size, or of one byte where that is 0, and the line that is refused.
+/// A refused line drops its batch, and the next ones have each core number that changes.
+const DROPS: WatchOptions = WatchOptions {
+    show: Show::Changes,
+    enter: None,
+    bad_lines: BadLines::Batch,
+};
+
+/// What a stream is answered, the refused line that ends the answers, and how many batches are dropped.
+#[derive(Drop)]
+struct Reply {
+    text: Vec<u8>,
+    refusal: Option<Refusal>,
+    refused_batches: u64,
+}
+
+/// What a stream is answered that comes in pieces of a size, or of one byte where that is 0.
 fn answered<R: Abort + AllocGlobal>(
     rt: &R,
     options: WatchOptions,
     stream: &[u8],
     size: usize,
-) -> Result<(Vec<u8>, Option<Refusal>), Fail> {
+) -> Result<Reply, Fail> {
     let alloc = rt.alloc();
     let mut watcher = Watcher::new(alloc, options);
     let mut out = Vec::new(alloc);
@@ -48,23 +67,48 @@ fn answered<R: Abort + AllocGlobal>(
         rest = more;
     }
     watcher.end(alloc, &mut out).map_err(|_| "no memory")?;
-    let refusal = watcher.refusal();
-    Ok((out, refusal))
+    Ok(Reply {
+        text: out,
+        refusal: watcher.refusal(),
+        refused_batches: watcher.refused_batches(),
+    })
 }
 
-/// Checks what a stream is answered, in pieces of several sizes.
+/// Checks what a stream is answered of whose batches so many are dropped, in pieces of several sizes.
+fn check_counted<R: Abort + AllocGlobal>(
+    rt: &R,
+    options: WatchOptions,
+    stream: &[u8],
+    wanted: &[u8],
+    count: u64,
+) -> Result<(), Fail> {
+    for size in [1, 2, 7, 1000] {
+        let got = answered(rt, options, stream, size)?;
+        assert_eq!(rt; got.text.as_slice(), wanted);
+        assert_eq!(rt; got.refusal, None);
+        assert_eq!(rt; got.refused_batches, count);
+    }
+    Ok(())
+}
+
+/// Checks what a stream is answered of which no line is refused.
 fn check_with<R: Abort + AllocGlobal>(
     rt: &R,
     options: WatchOptions,
     stream: &[u8],
     wanted: &[u8],
 ) -> Result<(), Fail> {
-    for size in [1, 2, 7, 1000] {
-        let (out, refusal) = answered(rt, options, stream, size)?;
-        assert_eq!(rt; out.as_slice(), wanted);
-        assert_eq!(rt; refusal, None);
-    }
-    Ok(())
+    check_counted(rt, options, stream, wanted, 0)
+}
+
+/// Checks what a stream is answered where refused lines drop their batches, so many in all.
+fn check_dropped<R: Abort + AllocGlobal>(
+    rt: &R,
+    stream: &[u8],
+    wanted: &[u8],
+    count: u64,
+) -> Result<(), Fail> {
+    check_counted(rt, DROPS, stream, wanted, count)
 }
 
 /// Checks what a stream is answered where nothing more is asked for.
@@ -72,7 +116,24 @@ fn check<R: Abort + AllocGlobal>(rt: &R, stream: &[u8], wanted: &[u8]) -> Result
     check_with(rt, BRIEF, stream, wanted)
 }
 
-/// Checks what a stream is answered of which a line is refused, in pieces of several sizes.
+/// Checks what a stream is answered of which this line is refused and ends the answers, in pieces of several sizes.
+fn check_ended<R: Abort + AllocGlobal>(
+    rt: &R,
+    options: WatchOptions,
+    stream: &[u8],
+    wanted: &[u8],
+    refusal: Refusal,
+) -> Result<(), Fail> {
+    for size in [1, 2, 7, 1000] {
+        let got = answered(rt, options, stream, size)?;
+        assert_eq!(rt; got.text.as_slice(), wanted);
+        assert_eq!(rt; got.refusal, Some(refusal));
+        assert_eq!(rt; got.refused_batches, 0);
+    }
+    Ok(())
+}
+
+/// Checks what a stream is answered of which a line is refused.
 fn check_refused<R: Abort + AllocGlobal>(
     rt: &R,
     stream: &[u8],
@@ -80,12 +141,7 @@ fn check_refused<R: Abort + AllocGlobal>(
     line: u64,
     kind: Kind,
 ) -> Result<(), Fail> {
-    for size in [1, 2, 7, 1000] {
-        let (out, refusal) = answered(rt, CHANGES, stream, size)?;
-        assert_eq!(rt; out.as_slice(), wanted);
-        assert_eq!(rt; refusal, Some(Refusal { line, kind }));
-    }
-    Ok(())
+    check_ended(rt, CHANGES, stream, wanted, Refusal { line, kind })
 }
 
 #[test]
@@ -229,4 +285,66 @@ fn wrong_questions(rt: HostRuntime) -> Result<(), Fail> {
     check_refused(&rt, b"batch\n? 4294967296", start, 2, Kind::NumberTooLarge)?;
     check_refused(&rt, b"? x\n", b"", 1, Kind::NotANumber)?;
     check_refused(&rt, b"batch\n?1\n", start, 2, Kind::NotANumber)
+}
+
+#[test]
+fn refused_batches(rt: HostRuntime) -> Result<(), Fail> {
+    // Nothing of the batch is entered: no edge, and no id that it named. What follows it is told of the graph of before.
+    check_dropped(
+        &rt,
+        b"1 2\nbatch\n+ 2 3\n+ 7 8\n+ 1 1\n+ 1 3\nbatch\n? 7\n? 3\n+ 2 3\n+ 1 3\nbatch\n- 1 2\n",
+        b"graph vertices 2 edges 1 top 1\n\
+          refused batch 1 line 5 kind 5 LoopInBatch\ncore 7 -\ncore 3 -\n\
+          batch 2 added 2 removed 0 kept 0 edges 3 top 2\n1 1 2\n2 1 2\n3 - 2\n\
+          batch 3 added 0 removed 1 kept 0 edges 2 top 1\n1 2 1\n2 2 1\n3 2 1\n",
+        1,
+    )?;
+    // The first refused line is told. What follows it is passed over, but for questions and the next batch.
+    check_dropped(
+        &rt,
+        b"1 2\nbatch\n+ 2 3\n? 3\nx\n? 1\n? 1 x\n? core 1\n+ 4294967296 1\n1 2\nbatch 2\nbatch\n+ 2 3\n1 3\n",
+        b"graph vertices 2 edges 1 top 1\n\
+          core 3 -\ncore 1 1\nmembers 1 1 2\n\
+          refused batch 1 line 5 kind 1 NotANumber\n\
+          refused batch 2 line 14 kind 8 EdgeLineInBatch\n",
+        2,
+    )?;
+    // A wrong question drops its batch, too, and the end of the stream ends one.
+    check_dropped(
+        &rt,
+        b"batch\n? x\n+ 1 2\nbatch\n\nbatch\n+ 1 2\n? core",
+        b"graph vertices 0 edges 0 top 0\n\
+          refused batch 1 line 2 kind 1 NotANumber\n\
+          batch 2 added 0 removed 0 kept 0 edges 0 top 0\n\
+          refused batch 3 line 8 kind 2 MissingField\n",
+        2,
+    )?;
+    // In the edges of the start there is no batch that could be dropped.
+    check_ended(
+        &rt,
+        DROPS,
+        b"1 2\n1 x\nbatch\n",
+        b"",
+        Refusal {
+            line: 2,
+            kind: Kind::NotANumber,
+        },
+    )?;
+    check_ended(
+        &rt,
+        DROPS,
+        b"1 2\n? 1\nbatch\n",
+        b"",
+        Refusal {
+            line: 2,
+            kind: Kind::UpdateOutsideBatch,
+        },
+    )?;
+    // Where no line is refused, all is as it is otherwise.
+    check_dropped(
+        &rt,
+        b"1 2\nbatch\n",
+        b"graph vertices 2 edges 1 top 1\nbatch 1 added 0 removed 0 kept 0 edges 1 top 1\n",
+        0,
+    )
 }

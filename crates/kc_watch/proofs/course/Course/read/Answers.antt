@@ -21,12 +21,13 @@ loop-line-preserved c =
         done ++ line ∷ [],
         is ∙ (ap (λ (t : List StreamLine). done ++ t) said ∙ sym (append_assoc done (line ∷ []) (stream_lines c.in-Some.more.now))),
         λ heard s.
-            subst (StandsAt c.take.new.self) (sym (read-more heard done line)) (c.in_ok-take.ensures.stands (hear_all heard done) (stands heard s)),
+            subst (StandsAt c.take.new.self) (sym (read-more c.args.options.bad_lines heard done line))
+            (c.in_ok-take.ensures.stands (hear_all c.args.options.bad_lines heard done) (stands heard s)),
         (
           put ++ more,
           out' ∙ ap (λ (t : List ℕ). t ++ more) out ∙ append_assoc c.args.out.now.items put more,
           λ heard s.
-              ap₂ (λ (x y : List ℕ). x ++ y) (adds heard s) (adds' (hear_all heard done) (stands heard s)).0
+              ap₂ (λ (x y : List ℕ). x ++ y) (adds heard s) (adds' (hear_all c.args.options.bad_lines heard done) (stands heard s)).0
               ∙ sym (answers-more c.args.options heard done line),
         ),
       );
@@ -45,7 +46,7 @@ returns-in_err-take-clause-put c =
           (subst (λ (t : List StreamLine). IsPrefixOf (answers_behind c.args.options heard t) (put ++ more))
           (sym (is ∙ ap (λ (t : List StreamLine). done ++ t) said))
           (stopped-prefix c.args.options heard done (stream_lines c.in-Some.more.now) line put more (adds heard s)
-          (adds' (hear_all heard done) (stands heard s)).1)),
+          (adds' (hear_all c.args.options.bad_lines heard done) (stands heard s)).1)),
     )
 
 pub returns-clause-put : goal.returns-clause-put

@@ -10,7 +10,7 @@ use Rattle.kc_watch.proofs.course.Course.read.Given as goal
 abbrev pub invariant-loop-line : goal.invariant-loop-line
 invariant-loop-line l = record {
   parts : (done : List StreamLine) × (stream_lines l.fn.bytes ≡ done ++ stream_lines l.rest)
-      × ((heard : Heard) → StandsAt l.fn.self heard → StandsAt l.self (hear_all heard done))
+      × ((heard : Heard) → StandsAt l.fn.self heard → StandsAt l.self (hear_all l.options.bad_lines heard done))
       × ((put : List ℕ) × (l.out.items ≡ l.fn.out.items ++ put)
       × ((heard : Heard) → StandsAt l.fn.self heard → put ≡ answers_behind l.options heard done));
 }

@@ -19,7 +19,8 @@ returns-then-is_some-clause-put c =
 
 pub returns-in-Tells-clause-stands : goal.returns-in-Tells-clause-stands
 returns-in-Tells-clause-stands c =
-    subst (λ (l : StreamLine). OnOk c.take_told.result ((heard : Heard) → StandsAt c.args.self.now heard → StandsAt c.take_told.new.self (hear heard l)))
+    subst (λ (l : StreamLine). OnOk c.take_told.result ((heard : Heard) → StandsAt c.args.self.now heard
+    → StandsAt c.take_told.new.self (hear c.args.options.bad_lines heard l)))
     (sym c.in-Tells.is) c.take_told.ensures.stands
 
 pub returns-in-Tells-clause-put : goal.returns-in-Tells-clause-put
@@ -32,13 +33,12 @@ returns-in-Tells-clause-put c =
 pub returns-in-Asks-clause-stands : goal.returns-in-Asks-clause-stands
 returns-in-Asks-clause-stands c =
     subst (λ (l : StreamLine). OnOk c.take_question.result ((heard : Heard) → StandsAt c.args.self.now heard
-    → StandsAt c.take_question.new.self (hear heard l))) (sym c.in-Asks.is) c.take_question.ensures.stands
+    → StandsAt c.take_question.new.self (hear c.args.options.bad_lines heard l))) (sym c.in-Asks.is) c.take_question.ensures.stands
 
 pub returns-in-Asks-clause-put : goal.returns-in-Asks-clause-put
 returns-in-Asks-clause-put c =
-    let (put, out, adds) = c.take_question.ensures.put in
     subst (λ (l : StreamLine). (put : List ℕ) × (c.take_question.new.out.items ≡ c.args.out.now.items ++ put)
     × ((heard : Heard) → StandsAt c.args.self.now heard
     → OnOk c.take_question.result (put ≡ answer_behind c.args.options heard l)
     × OnErr c.take_question.result (IsPrefixOf (answer_behind c.args.options heard l) put)))
-    (sym c.in-Asks.is) (put, out, adds c.args.options)
+    (sym c.in-Asks.is) c.take_question.ensures.put

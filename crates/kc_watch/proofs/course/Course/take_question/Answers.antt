@@ -12,25 +12,25 @@ returns-in_err-answer-clause-put c =
     let (put, out, adds) = c.in_err-answer.ensures in (
       put,
       out,
-      λ options heard s.
+      λ heard s.
           let none : heard.refusal ≡ None = sym s.gathers.refusal ∙ c.requires.going in
           on-err c.from_residual.result _ _ c.from_residual.ensures.0
-          (subst (λ (t : List ℕ). IsPrefixOf (answer_behind options heard (Asks c.args.question)) t)
-          (sym (adds heard.told (s.gathers.holds none) (s.keeps none)).1) (prefix-none (answer_behind options heard (Asks c.args.question)))),
+          (subst (λ (t : List ℕ). IsPrefixOf (answer_behind c.args.options heard (Asks c.args.question)) t)
+          (sym (adds heard.told (s.gathers.holds none) (s.keeps none)).1) (prefix-none (answer_behind c.args.options heard (Asks c.args.question)))),
     )
 
 pub returns-clause-stands : goal.returns-clause-stands
 returns-clause-stands c =
-    on_ok_weaker c.take.result (λ g. asked-stands c.args.self.now _ c.args.question c.requires.going refl refl g) c.take.ensures
+    on_ok_weaker c.take.result (λ g. asked-stands c.args.self.now _ c.args.options.bad_lines c.args.question c.requires.going refl refl g) c.take.ensures
 
 pub returns-clause-put : goal.returns-clause-put
 returns-clause-put c =
     let (put, out, adds) = c.in_ok-answer.ensures in (
       put,
       out,
-      λ options heard s.
+      λ heard s.
           let none : heard.refusal ≡ None = sym s.gathers.refusal ∙ c.requires.going in
-          let is : put ≡ answer_behind options heard (Asks c.args.question) =
-          (adds heard.told (s.gathers.holds none) (s.keeps none)).0 ∙ sym (question-behind options heard c.args.question none) in
+          let is : put ≡ answer_behind c.args.options heard (Asks c.args.question) =
+          (adds heard.told (s.gathers.holds none) (s.keeps none)).0 ∙ sym (question-behind c.args.options heard c.args.question none) in
           on-both c.take.result _ _ is (prefix-same _ _ (sym is)),
     )

@@ -14,7 +14,7 @@ use Rattle.kc_watch.proofs.course.Course.take_told.Goals as goal
 pub returns-in-Batch-clause-stands : goal.returns-in-Batch-clause-stands
 returns-in-Batch-clause-stands c =
     subst (λ (l : TextLine). OnOk c.take_batch.result ((heard : Heard) → StandsAt c.args.self.now heard
-    → StandsAt c.take_batch.new.self (hear heard (Tells l)))) (sym c.in-Batch.is) c.take_batch.ensures.stands
+    → StandsAt c.take_batch.new.self (hear c.args.options.bad_lines heard (Tells l)))) (sym c.in-Batch.is) c.take_batch.ensures.stands
 
 pub returns-in-Batch-clause-put : goal.returns-in-Batch-clause-put
 returns-in-Batch-clause-put c =
@@ -26,7 +26,8 @@ returns-in-Batch-clause-put c =
 pub returns-in_default : goal.returns-in_default
 returns-in_default c = record {
   stands = on_ok_weaker c.take.result
-      (λ g heard s. other-stands c.args.self.now _ c.args.told c.in_default.not-Batch c.requires.going refl refl heard s (g heard s.gathers)) c.take.ensures;
+      (λ g heard s. other-stands c.args.self.now _ c.args.options.bad_lines c.args.told c.in_default.not-Batch c.requires.going refl refl heard s
+      (g heard s.gathers)) c.take.ensures;
   put = (
     [],
     sym (append-nil c.args.out.now.items),

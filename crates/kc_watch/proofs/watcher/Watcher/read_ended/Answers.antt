@@ -21,7 +21,7 @@ returns-then-is_empty-2-clause-fed c =
     let empty : c.args.self.now.begun.items ≡ [] = nil-from c.args.self.now.begun.items (omega (arith, z)) in
     on_ok_weaker c.read.result
     (λ st. read-fed c.args.self.now c.requires.going c.args.whole.now c.args.whole.now c.requires.ended some
-    (sym (ap (λ (t : List ℕ). t ++ c.args.whole.now) empty)) _ st empty) c.read.ensures.stands
+    (sym (ap (λ (t : List ℕ). t ++ c.args.whole.now) empty)) _ st refl empty) c.read.ensures.stands
 
 pub returns-then-is_empty-2-clause-put : goal.returns-then-is_empty-2-clause-put
 returns-then-is_empty-2-clause-put c =
@@ -33,7 +33,7 @@ returns-then-is_empty-2-clause-put c =
       put,
       out,
       read-answers c.args.self.now c.requires.going c.args.whole.now c.args.whole.now c.requires.ended some
-          (sym (ap (λ (t : List ℕ). t ++ c.args.whole.now) empty)) c.args.self.now.options c.read.result put adds,
+          (sym (ap (λ (t : List ℕ). t ++ c.args.whole.now) empty)) c.read.result put adds,
     )
 
 pub returns-in_err-extend_from_slice-clause-put : goal.returns-in_err-extend_from_slice-clause-put
@@ -44,7 +44,7 @@ returns-in_err-extend_from_slice-clause-put c =
       sym (append-nil c.args.out.now.items),
       λ fed f. on-err c.from_residual.result _ _ c.from_residual.ensures.0
           (read-broken c.args.self.now c.requires.going c.args.whole.now (c.args.self.now.begun.items ++ c.args.whole.now) c.requires.ended some refl
-          c.args.self.now.options [] (λ heard s. prefix-none _) fed f),
+          [] (λ heard s. prefix-none _) fed f),
     )
 
 pub returns-in_err-read-clause-put : goal.returns-in_err-read-clause-put
@@ -56,7 +56,7 @@ returns-in_err-read-clause-put c =
       put,
       out,
       λ fed f. on-err c.from_residual-in_err-read.result _ _ c.from_residual-in_err-read.ensures.0
-          (read-broken c.args.self.now c.requires.going c.args.whole.now c.deref.result.now c.requires.ended some is c.args.self.now.options put
+          (read-broken c.args.self.now c.requires.going c.args.whole.now c.deref.result.now c.requires.ended some is put
           (λ heard s. (adds heard s).1) fed f),
     )
 
@@ -65,7 +65,8 @@ returns-clause-fed c =
     let n = eqb-false (length c.args.whole.now) 0 (sym c.if-is_empty.ensures) in
     let some : 0 < length c.args.whole.now = omega (arith, n) in
     let is : c.deref.result.now ≡ c.args.self.now.begun.items ++ c.args.whole.now = c.deref.ensures.value ∙ c.in_ok-extend_from_slice.ensures.items in
-    read-fed c.args.self.now c.requires.going c.args.whole.now c.deref.result.now c.requires.ended some is _ c.in_ok-read.ensures.stands c.clear.ensures.items
+    read-fed c.args.self.now c.requires.going c.args.whole.now c.deref.result.now c.requires.ended some is _ c.in_ok-read.ensures.stands refl
+    c.clear.ensures.items
 
 pub returns-clause-put : goal.returns-clause-put
 returns-clause-put c =
@@ -76,7 +77,7 @@ returns-clause-put c =
       put,
       out,
       λ fed f. (
-        read-all c.args.self.now c.requires.going c.args.whole.now c.deref.result.now c.requires.ended some is c.args.self.now.options put
+        read-all c.args.self.now c.requires.going c.args.whole.now c.deref.result.now c.requires.ended some is put
             (λ heard s. (adds heard s).0) fed f,
         tt,
       ),

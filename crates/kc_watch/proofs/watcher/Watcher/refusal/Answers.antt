@@ -8,4 +8,4 @@ pub returns-clause-so_far : goal.returns-clause-so_far
 returns-clause-so_far c = λ fed f. c.refusal.ensures ∙ (f.stands.gathers.refusal ∙ ap (λ (h : Heard). h.refusal) (sym (fed-heard c.args.self.now fed f)))
 
 pub returns-clause-at_end : goal.returns-clause-at_end
-returns-clause-at_end c = λ fed ended. c.refusal.ensures ∙ ended
+returns-clause-at_end c = λ fed ended. c.refusal.ensures ∙ ended.0

@@ -2,7 +2,7 @@
 use Rattle.std.proofs.Common.{◌≡◌, ◌++◌, [], ℕ, List, ap, refl, sym, ◌∙◌, append-nil, append_assoc, arith, true, false}
 use Rattle.std.specs.Prelude.{is_some}
 use Rattle.kc_watch.specs.Text.{reply, reply_at_end}
-use Rattle.kc_watch.proofs.Fed.{end-answers, end-broken, end-refusal, end-refused, heard_of, refused-ended, stays}
+use Rattle.kc_watch.proofs.Fed.{end-answers, end-broken, end-refusal, end-refused, heard_by, refused-ended, stays}
 use Rattle.kc_watch.proofs.Lines.{going-heard, on-both, on-err}
 use Rattle.kc_lists.proofs.Results.{none-from}
 use Rattle.kc_watch.proofs.watcher.WatcherReplier.end.Goals as goal
@@ -11,12 +11,13 @@ pub returns-then-is_some : goal.returns-then-is_some
 returns-then-is_some c =
     let some : is_some c.args.self.now.course.gathered.refusal ≡ true = grind (arith, c.refusal.ensures, c.is_some.ensures, c.if-is_some.true) in
     record {
+      settings = refl;
       ended = λ fed f. refused-ended c.args.self.now fed f some;
       put = (
         [],
         sym (append-nil c.args.out.now.items),
         λ fed f. (
-          ap (reply_at_end c.args.self.now.options) (sym (append-nil fed)) ∙ (stays c.args.self.now fed f c.args.self.now.options some []).1
+          ap (reply_at_end c.args.self.now.options) (sym (append-nil fed)) ∙ (stays c.args.self.now fed f some []).1
               ∙ sym (append-nil (reply c.args.self.now.options fed)),
           tt,
         ),
@@ -28,13 +29,14 @@ returns-in_err-read c =
     let going : is_some c.args.self.now.course.gathered.refusal ≡ false = grind (arith, c.refusal.ensures, c.is_some.ensures, c.if-is_some.false) in
     let (put, out, adds) = c.in_err-read.ensures.put in
     record {
+      settings = refl;
       ended = (on-err c.from_residual.result _ (Unit {0}) c.from_residual.ensures.0 tt).0;
       put = (
         put,
         out,
         λ fed f. on-err c.from_residual.result _ _ c.from_residual.ensures.0
-            (end-broken c.args.self.now (none-from _ going) c.deref.result.now c.deref.ensures.value fed f c.args.self.now.options put
-            (adds (heard_of f.done) f.stands).1),
+            (end-broken c.args.self.now (none-from _ going) c.deref.result.now c.deref.ensures.value fed f put
+            (adds (heard_by c.args.self.now fed f) f.stands).1),
       );
     }
 
@@ -44,48 +46,48 @@ returns-then-is_some-2 c =
     let some : is_some c.read.new.self.gathered.refusal ≡ true = grind (arith, c.refusal-2.ensures, c.is_some-2.ensures, c.if-is_some-2.true) in
     let (put, out, adds) = c.in_ok-read.ensures.put in
     record {
-      ended = λ fed f. end-refusal c.args.self.now (none-from _ going) c.deref.result.now c.deref.ensures.value fed f c.read.new.self c.read.new.self
-          (c.in_ok-read.ensures.stands (heard_of f.done) f.stands) refl;
+      settings = refl;
+      ended = λ fed f. end-refusal c.args.self.now (none-from _ going) c.deref.result.now c.deref.ensures.value fed f c.read.new.self.gathered c.read.new.self
+          (c.in_ok-read.ensures.stands (heard_by c.args.self.now fed f) f.stands) refl;
       put = (
         put,
         out,
         λ fed f. (
-          end-refused c.args.self.now (none-from _ going) c.deref.result.now c.deref.ensures.value fed f c.args.self.now.options c.read.new.self put
-              (c.in_ok-read.ensures.stands (heard_of f.done) f.stands) some (adds (heard_of f.done) f.stands).0,
+          end-refused c.args.self.now (none-from _ going) c.deref.result.now c.deref.ensures.value fed f c.read.new.self put
+              (c.in_ok-read.ensures.stands (heard_by c.args.self.now fed f) f.stands) some (adds (heard_by c.args.self.now fed f) f.stands).0,
           tt,
         ),
       );
     }
 
-pub end_part-requires : goal.end_part-requires
-end_part-requires c =
-    let (fed, f) = c.requires in
-    let s = c.in_ok-read.ensures.stands (heard_of f.done) f.stands in
+pub end_open-requires-clause-going : goal.end_open-requires-clause-going
+end_open-requires-clause-going c =
     let going : is_some c.read.new.self.gathered.refusal ≡ false = grind (arith, c.refusal-2.ensures, c.is_some-2.ensures, c.if-is_some-2.false) in
-    let none = going-heard c.read.new.self _ s going in (
-      _,
-      s.gathers.holds none,
-      s.keeps none,
-    )
+    none-from _ going
+
+pub end_open-requires-clause-stands : goal.end_open-requires-clause-stands
+end_open-requires-clause-stands c =
+    let (fed, f) = c.requires in
+    (_, c.in_ok-read.ensures.stands (heard_by c.args.self.now fed f) f.stands)
 
 pub returns : goal.returns
 returns c =
     let before : is_some c.args.self.now.course.gathered.refusal ≡ false = grind (arith, c.refusal.ensures, c.is_some.ensures, c.if-is_some.false) in
     let going : is_some c.read.new.self.gathered.refusal ≡ false = grind (arith, c.refusal-2.ensures, c.is_some-2.ensures, c.if-is_some-2.false) in
     let (put, out, adds) = c.in_ok-read.ensures.put in
-    let (more, out', adds') = c.end_part.ensures.put in
+    let (more, out', adds') = c.end_open.ensures.put in
     record {
-      ended = (on-both c.end_part.result _ (Unit {0})
-          (λ fed f. end-refusal c.args.self.now (none-from _ before) c.deref.result.now c.deref.ensures.value fed f c.end_part.new.self c.read.new.self
-          (c.in_ok-read.ensures.stands (heard_of f.done) f.stands) c.end_part.ensures.gathered) tt).0;
+      settings = refl;
+      ended = (on-both c.end_open.result _ (Unit {0})
+          (λ fed f. end-refusal c.args.self.now (none-from _ before) c.deref.result.now c.deref.ensures.value fed f c.end_open.new.self.gathered c.read.new.self
+          (c.in_ok-read.ensures.stands (heard_by c.args.self.now fed f) f.stands) c.end_open.ensures.gathered) tt).0;
       put = (
         put ++ more,
         out' ∙ ap (λ (t : List ℕ). t ++ more) out ∙ append_assoc c.args.out.now.items put more,
         λ fed f.
-            let s = c.in_ok-read.ensures.stands (heard_of f.done) f.stands in
-            let none = going-heard c.read.new.self _ s going in
-            end-answers c.args.self.now (none-from _ before) c.deref.result.now c.deref.ensures.value fed f c.args.self.now.options c.end_part.result
+            let s = c.in_ok-read.ensures.stands (heard_by c.args.self.now fed f) f.stands in
+            end-answers c.args.self.now (none-from _ before) c.deref.result.now c.deref.ensures.value fed f c.end_open.result
             c.read.new.self
-            put more s going (adds (heard_of f.done) f.stands).0 (adds' _ (s.gathers.holds none) (s.keeps none)),
+            put more s going (adds (heard_by c.args.self.now fed f) f.stands).0 (adds' _ s),
       );
     }

@@ -2,12 +2,13 @@
 use Rattle.std.proofs.Common.{◌≡◌, ◌++◌, [], ℕ, List, ap, ap₂, sym, subst, refl, ◌∙◌, append-nil, append_assoc, arith, true, false}
 use Rattle.std.specs.Prelude.{is_some}
 use Rattle.std.proofs.lemmas.List.{take-append-drop}
-use Rattle.kc_dialogue.specs.Replies.{IsPrefixOf}
+use Rattle.kc_dialogue.specs.Replies.{IsPrefixOf, StaysFrom}
 use Rattle.kc_text.specs.Lines.{EndsLine}
 use Rattle.kc_stream.specs.Ended.{IsOpen}
 use Rattle.kc_lists.proofs.Results.{none-from}
-use Rattle.kc_watch.specs.Text.{reply}
+use Rattle.kc_watch.specs.Text.{reply, reply_at_end}
 use Rattle.kc_watch.specs.Watching.{WasFed}
+use Rattle.kc_watch.specs.declared.options.WatchOptions.{WatchOptions}
 use Rattle.kc_watch.proofs.Fed.{fed-open, fed-refused, more-reply, open-reply, refused-open, stays}
 use Rattle.kc_watch.proofs.Lines.{on-err, prefix-same}
 use Rattle.kc_watch.proofs.watcher.WatcherReplier.feed.Goals as goal
@@ -18,7 +19,7 @@ returns-then-is_some-clause-put c =
       [],
       sym (append-nil c.args.out.now.items),
       λ fed f. (
-        more-reply c.args.self.now fed f c.args.self.now.options c.args.piece.now (refused-open c.args.self.now fed f some)
+        more-reply c.args.self.now fed f c.args.piece.now (refused-open c.args.self.now fed f some)
             ∙ sym (append-nil (reply c.args.self.now.options fed)),
         tt,
       ),
@@ -27,7 +28,7 @@ returns-then-is_some-clause-put c =
 pub returns-then-is_some-clause-ended : goal.returns-then-is_some-clause-ended
 returns-then-is_some-clause-ended c = λ _ fed f.
     let some : is_some c.args.self.now.course.gathered.refusal ≡ true = grind (arith, c.refusal.ensures, c.is_some.ensures, c.if-is_some.true) in
-    stays c.args.self.now (fed ++ c.args.piece.now) (fed-refused c.args.self.now fed f c.args.piece.now some) c.args.self.now.options some
+    stays c.args.self.now (fed ++ c.args.piece.now) (fed-refused c.args.self.now fed f c.args.piece.now some) some
 
 pub returns-in_err-read_ended-clause-put : goal.returns-in_err-read_ended-clause-put
 returns-in_err-read_ended-clause-put c =
@@ -44,7 +45,7 @@ returns-in_err-read_ended-clause-put c =
       λ fed f.
           let same : reply c.args.self.now.options (fed ++ c.args.piece.now) ≡ reply c.args.self.now.options (fed ++ whole) =
           ap (reply c.args.self.now.options) (ap (λ (t : List ℕ). fed ++ t) (sym parts) ∙ sym (append_assoc fed whole rest))
-          ∙ open-reply c.args.self.now.options c.args.self.now fed whole rest f (none-from _ going) ends o in
+          ∙ open-reply c.args.self.now fed whole rest f (none-from _ going) ends o in
           on-err c.from_residual.result _ _ c.from_residual.ensures.0
           (subst (λ (t : List ℕ). IsPrefixOf t (reply c.args.self.now.options fed ++ put)) (sym same) (adds fed f).1),
     )
@@ -64,7 +65,7 @@ returns-in_err-extend_from_slice-clause-put c =
       λ fed f.
           let same : reply c.args.self.now.options (fed ++ c.args.piece.now) ≡ reply c.args.self.now.options (fed ++ whole) =
           ap (reply c.args.self.now.options) (ap (λ (t : List ℕ). fed ++ t) (sym parts) ∙ sym (append_assoc fed whole rest))
-          ∙ open-reply c.args.self.now.options c.args.self.now fed whole rest f (none-from _ going) ends o in
+          ∙ open-reply c.args.self.now fed whole rest f (none-from _ going) ends o in
           on-err c.from_residual-in_err-extend_from_slice.result _ _ c.from_residual-in_err-extend_from_slice.ensures.0
           (prefix-same _ _ (same ∙ (adds fed f).0)),
     )
@@ -77,7 +78,7 @@ returns-clause-fed c = λ fed f.
     ∙ take-append-drop c.ended_len.result c.args.piece.now in
     let o : IsOpen rest = subst IsOpen (sym c.split_at.ensures.back) c.ended_len.ensures.rest in
     subst (WasFed _) (append_assoc fed whole rest ∙ ap (λ (t : List ℕ). fed ++ t) parts)
-    (fed-open c.read_ended.new.self (fed ++ whole) (c.in_ok-read_ended.ensures.fed fed f) _ rest o refl c.in_ok-extend_from_slice.ensures.items)
+    (fed-open c.read_ended.new.self (fed ++ whole) (c.in_ok-read_ended.ensures.fed fed f) _ rest o refl refl c.in_ok-extend_from_slice.ensures.items)
 
 pub returns-clause-put : goal.returns-clause-put
 returns-clause-put c =
@@ -93,10 +94,12 @@ returns-clause-put c =
       out,
       λ fed f. (
         ap (reply c.args.self.now.options) (ap (λ (t : List ℕ). fed ++ t) (sym parts) ∙ sym (append_assoc fed whole rest))
-            ∙ open-reply c.args.self.now.options c.args.self.now fed whole rest f (none-from _ going) ends o ∙ (adds fed f).0,
+            ∙ open-reply c.args.self.now fed whole rest f (none-from _ going) ends o ∙ (adds fed f).0,
         tt,
       ),
     )
 
 pub returns-clause-ended : goal.returns-clause-ended
-returns-clause-ended c = λ e fed f. stays _ (fed ++ c.args.piece.now) (returns-clause-fed c fed f) c.args.self.now.options (c.flow.ensures e)
+returns-clause-ended c = λ e fed f.
+    subst (λ (o : WatchOptions). StaysFrom (reply o) (reply_at_end o) (fed ++ c.args.piece.now)) c.in_ok-read_ended.ensures.same
+    (stays _ (fed ++ c.args.piece.now) (returns-clause-fed c fed f) (c.flow.ensures e))
