@@ -1,14 +1,13 @@
 -- The numbers of ids among the first ones.
 use Rattle.std.proofs.Common.{◌≡◌, ◌≤◌, ◌<◌, ◌+◌, ℕ, zero, suc, Bool, true, false, cond, List, [], ◌∷◌, not, refl, sym, ap, ◌∙◌, arith, take}
-use Rattle.std.proofs.Common.{◌||◌, ap₂, length, nat_eq, Option, Some, None, le-ltb, lt-ltb, inl, inr}
-use Rattle.std.specs.Prelude.{nat_lt, option_map, slice_index}
+use Rattle.std.proofs.Common.{◌||◌, ap₂, nat_eq, Option, Some, None, le-ltb, lt-ltb, inl, inr}
+use Rattle.std.specs.Prelude.{nat_lt, option_map}
 use Rattle.std.specs.Set.{is_member}
-use Rattle.std.proofs.lemmas.Bool.{cases_Bool, cases_lt}
+use Rattle.std.proofs.lemmas.Bool.{cases_Bool}
 use Rattle.kc_lists.proofs.Shared.{ltb-next}
 use Rattle.kc_text.specs.Inputs.{place}
 use Rattle.kc_stream.specs.Ids.{number_of}
 use Rattle.kc_stream.proofs.Naming.{number-some}
-use Rattle.kc_answers.specs.Answers.{number_by}
 
 -- what is the first of ids has the number 0
 number-first : (x id : ℕ) (ids : List ℕ) → nat_eq id x ≡ true → number_of (x ∷ ids) id ≡ Some 0
@@ -57,27 +56,25 @@ number-taken (x ∷ ids) (suc n) id = elim (cases_Bool (nat_eq id x)) [
     one-further true o = refl
     one-further false o = refl
 
--- what is no id has no core number
-pub known-none : (ids core : List ℕ) (n id : ℕ) → number_of ids id ≡ None → number_by (take n ids) core id ≡ None
-known-none ids core n id none =
-    ap (option_map (λ v. slice_index core v)) (number-taken ids n id ∙ ap (λ (o : Option ℕ). cond (nat_lt (place ids id) n) o None) none)
-    ∙ never (nat_lt (place ids id) n)
+-- what is no id is none of the first ones
+pub known-none : (ids : List ℕ) (n id : ℕ) → number_of ids id ≡ None → number_of (take n ids) id ≡ None
+known-none ids n id none =
+    number-taken ids n id ∙ ap (λ (o : Option ℕ). cond (nat_lt (place ids id) n) o None) none ∙ never (nat_lt (place ids id) n)
   where
-    never : (b : Bool) → option_map (λ v. slice_index core v) (cond b None None) ≡ None
+    never : (b : Bool) → cond b None None ≡ (let o : Option ℕ = None in o)
     never true = refl
     never false = refl
 
--- An id has the core number at its number, if that is below how many of the ids have one.
-pub known-some : (ids core : List ℕ) (id v : ℕ) (found : Option ℕ) → number_of ids id ≡ Some v
-    → (v < length core → found ≡ Some (slice_index core v)) → (length core ≤ v → found ≡ None)
-    → found ≡ number_by (take (length core) ids) core id
-known-some ids core id v found some within past =
+-- an id is one of the first ones if its number is below how many these are
+pub known-first : (ids : List ℕ) (n id v : ℕ) → number_of ids id ≡ Some v → v < n → number_of (take n ids) id ≡ Some v
+known-first ids n id v some low =
     let (m, at) = number-some ids id v some in
-    let n : ℕ = length core in
-    let is : number_by (take n ids) core id ≡ option_map (λ v. slice_index core v) (cond (nat_lt v n) (Some v) None) =
-    ap (option_map (λ v. slice_index core v))
-    (number-taken ids n id ∙ ap₂ (λ (p : ℕ) (o : Option ℕ). cond (nat_lt p n) o None) (sym at) some) in
-    elim (cases_lt v n) [
-      | inl low ↦ within low ∙ sym (is ∙ ap (λ (b : Bool). option_map (λ v. slice_index core v) (cond b (Some v) None)) (lt-ltb v n low))
-      | inr high ↦ past high ∙ sym (is ∙ ap (λ (b : Bool). option_map (λ v. slice_index core v) (cond b (Some v) None)) (le-ltb v n high))
-    ]
+    number-taken ids n id
+    ∙ ap₂ (λ (b : Bool) (o : Option ℕ). cond b o None) (ap (λ p. nat_lt p n) (sym at) ∙ lt-ltb v n low) some
+
+-- and else it is none of them
+pub known-later : (ids : List ℕ) (n id v : ℕ) → number_of ids id ≡ Some v → n ≤ v → number_of (take n ids) id ≡ None
+known-later ids n id v some high =
+    let (m, at) = number-some ids id v some in
+    number-taken ids n id
+    ∙ ap (λ (b : Bool). cond b (number_of ids id) None) (ap (λ p. nat_lt p n) (sym at) ∙ le-ltb v n high)

@@ -8,6 +8,14 @@ ghost use Rattle.kc_changes.specs.Changed.{number_field};
 use crate::NoMemory;
 use itoa::Buffer;
 
+/// Puts words.
+pub(crate) fn put_words(out: &mut Vec<u8>, words: &str) -> Result<(), NoMemory>
+    ensures ok { OnOk result (out.new.items ≡ out.old.items ++ words.now) }
+    ensures kept { StartsWith out.new.items out.old.items }
+{
+    out.extend_from_slice(words.as_bytes())
+}
+
 /// Puts words, and a number.
 pub(crate) fn put_field(out: &mut Vec<u8>, label: &str, number: u32) -> Result<(), NoMemory>
     ensures ok { OnOk result (out.new.items ≡ out.old.items ++ (label.now ++ decimal number)) }

@@ -4,9 +4,9 @@ use Rattle.std.specs.Str.{bytes_eq}
 use Rattle.kc_text.specs.declared.kind.Kind.{Kind}
 use Rattle.kc_text.specs.declared.kind.Kind.TheVariants.{MissingField, ExtraField}
 use Rattle.kc_text.specs.declared.line.TextLine.TheVariants.{Wrong}
-use Rattle.kc_text.specs.Forms.{line_of, number}
+use Rattle.kc_text.specs.Forms.{line_of, number, two_numbers}
 use Rattle.kc_text.specs.Lines.{fields, lines}
-use Rattle.kc_stream.specs.declared.question.Question.TheVariants.{Core, Members, Sizes}
+use Rattle.kc_stream.specs.declared.question.Question.TheVariants.{Core, Members, Sizes, Order}
 use Rattle.kc_stream.specs.declared.stream_line.StreamLine.{StreamLine}
 use Rattle.kc_stream.specs.declared.stream_line.StreamLine.TheVariants.{Tells, Asks}
 
@@ -36,12 +36,18 @@ abbrev pub sizes_form : List (List ℕ) → StreamLine
 sizes_form [] = Asks Sizes
 sizes_form (extra ∷ rest) = Tells (Wrong ExtraField)
 
--- what a line says that begins with `?`, by the fields after it: `? ID`, `? core K` or `? sizes`
+-- the question which of two ids stands first, or what is wrong with them
+abbrev pub order_form : Result (ℕ × ℕ) Kind → StreamLine
+order_form (Ok pair) = Asks (Order pair.0 pair.1)
+order_form (Err kind) = Tells (Wrong kind)
+
+-- what a line says that begins with `?`, by the fields after it: `? ID`, `? core K`, `? sizes` or `? order A B`
 abbrev pub question_form : List (List ℕ) → StreamLine
 question_form [] = Tells (Wrong MissingField)
 question_form (first ∷ rest) =
     if bytes_eq first (codes "core") then members_form (one_number rest)
     else if bytes_eq first (codes "sizes") then sizes_form rest
+    else if bytes_eq first (codes "order") then order_form (two_numbers rest)
     else core_form (one_number (first ∷ rest))
 
 -- a line whose first field is `?` asks, and any other tells what a line of a text tells

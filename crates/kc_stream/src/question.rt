@@ -9,4 +9,6 @@ pub enum Question {
     Members(u32),
     /// How many vertices have each core number.
     Sizes,
+    /// Which of two ids stands first in the order by core number, layer and id.
+    Order(u32, u32),
 }

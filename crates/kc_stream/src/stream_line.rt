@@ -1,7 +1,8 @@
 //! What one line of a stream says: it tells what a line of a text tells, or it asks.
 ghost use Rattle.std.specs.Prelude.{◌≡◌};
 ghost use Rattle.kc_text.specs.Lines.{fields};
-ghost use Rattle.kc_stream.specs.Asking.{core_form, members_form, one_number, question_form, sizes_form, stream_line};
+ghost use Rattle.kc_text.specs.Forms.{two_numbers};
+ghost use Rattle.kc_stream.specs.Asking.{core_form, members_form, one_number, order_form, question_form, sizes_form, stream_line};
 
 use crate::question::Question;
 use kc_text::{Kind, TextLine, cut_field, number, read_line};
@@ -27,6 +28,18 @@ fn one_number(text: &[u8]) -> Result<u32, Kind>
         return Err(Kind::ExtraField);
     }
     Ok(only)
+}
+
+/// The two numbers that are all of the text's fields.
+fn two_numbers(text: &[u8]) -> Result<(u32, u32), Kind>
+    ensures { result ≡ two_numbers (fields text.now) }
+{
+    let Some((first, rest)) = cut_field(text) else {
+        return Err(Kind::MissingField);
+    };
+    let a = number(first)?;
+    let b = one_number(rest)?;
+    Ok((a, b))
 }
 
 fn core_form(text: &[u8]) -> StreamLine
@@ -56,6 +69,15 @@ fn sizes_form(rest: &[u8]) -> StreamLine
     }
 }
 
+fn order_form(rest: &[u8]) -> StreamLine
+    ensures { result ≡ order_form (two_numbers (fields rest.now)) }
+{
+    match two_numbers(rest) {
+        Ok((a, b)) => StreamLine::Asks(Question::Order(a, b)),
+        Err(kind) => StreamLine::Tells(TextLine::Wrong(kind)),
+    }
+}
+
 /// What a line says that begins with `?`, by what stands behind that.
 fn question_form(text: &[u8]) -> StreamLine
     ensures { result ≡ question_form (fields text.now) }
@@ -67,6 +89,8 @@ fn question_form(text: &[u8]) -> StreamLine
         members_form(rest)
     } else if first == b"sizes".as_slice() {
         sizes_form(rest)
+    } else if first == b"order".as_slice() {
+        order_form(rest)
     } else {
         core_form(text)
     }

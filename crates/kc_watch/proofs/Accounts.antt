@@ -16,6 +16,9 @@ use Rattle.kc_graph.specs.SimpleGraph.{SimpleGraph}
 use Rattle.kc_graph.specs.declared.update.Update.{Update}
 use Rattle.kc_graph.proofs.Existence.{certificate_exists}
 use Rattle.kc_graph.proofs.Law.{certified-core_numbers, core-unique}
+use Rattle.kc_tally.specs.Layers.{AreLayers}
+use Rattle.kc_tally.proofs.Existing.{layers-exist}
+use Rattle.kc_tally.proofs.Unique.{layers-same}
 use Rattle.kc_text.specs.declared.change.ChangeLine.{ChangeLine}
 use Rattle.kc_text.specs.Deciding.{last_batch}
 use Rattle.kc_text.specs.Inputs.{AreAmong, AreUpdates, EdgeBatch, EdgeUpdate, numbered_batch, numbered_change, parts_of, start_graph}
@@ -26,7 +29,7 @@ use Rattle.kc_batch_effects.proofs.Applying.{graph_after_batch-nil}
 use Rattle.kc_stream.specs.Ids.{ids_of, with_name, with_names}
 use Rattle.kc_stream.proofs.Holding.{some-from}
 use Rattle.kc_stream.proofs.Naming.{names-behind, names-once}
-use Rattle.kc_watch.specs.Accounts.{Account, account_of, account_of_start, batch_behind, core_numbers_of, entered, ids_with, top_of, with_batch}
+use Rattle.kc_watch.specs.Accounts.{Account, account_of, account_of_start, batch_behind, core_numbers_of, entered, ids_with, layers_of, top_of, with_batch}
 
 -- the core numbers of a graph are its core numbers
 pub numbers-are : (g : SimpleGraph) → AreCoreNumbers g (core_numbers_of g)
@@ -36,7 +39,17 @@ numbers-are g = let (core, order, certifies) = certificate_exists g in certified
 pub numbers-alone : (g : SimpleGraph) (core : List ℕ) → AreCoreNumbers g core → core ≡ core_numbers_of g
 numbers-alone g core are = core-unique g core (core_numbers_of g) are (numbers-are g)
 
--- so the greatest of them is the greatest core number
+-- the layers of a graph are its layers
+pub layers-are : (g : SimpleGraph) → AreLayers g (core_numbers_of g) (layers_of g)
+layers-are g = let c = certificate_exists g in (layers-exist g c.0 (certified-core_numbers g c.0 c.1 c.2)).1
+
+-- and any that are, are these
+pub layers-alone : (g : SimpleGraph) (core layer : List ℕ) → AreCoreNumbers g core → AreLayers g core layer → layer ≡ layers_of g
+layers-alone g core layer are layers =
+    layers-same g (core_numbers_of g) layer (layers_of g)
+    (subst (λ (numbers : List ℕ). AreLayers g numbers layer) (numbers-alone g core are) layers) (layers-are g)
+
+-- the greatest of the core numbers is the greatest core number
 pub top-is : (g : SimpleGraph) (core : List ℕ) → AreCoreNumbers g core → greatest core ≡ top_of g
 top-is g core are = ap greatest (numbers-alone g core are)
 
@@ -132,6 +145,12 @@ nothing-changes account size =
 -- no id was named twice
 pub ids-once : (told : Told) → Distinct (ids_of told)
 ids-once told = names-once [] (names told) tt
+
+-- nor has an account an id twice
+pub account-once : (edges : List (ℕ × ℕ)) (batches : List (List ChangeLine)) → Distinct (account_of edges batches).ids
+account-once edges batches =
+    subst Distinct (sym (account-ids (account_of_start edges) batches))
+    (names-once (with_names [] (ends edges)) (ends (map ends_of (flat_map (λ (b : List ChangeLine). b) batches))) (names-once [] (ends edges) tt))
 
 -- behind the batches that have ended, the ids that were named are those of then, and others behind them
 pub ids-grown : (told : Told) → is_some told.last ≡ true → (more : List ℕ) × (ids_of told ≡ (account_of told.edges told.earlier).ids ++ more)

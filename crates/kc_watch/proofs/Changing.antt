@@ -40,7 +40,7 @@ place-at ids v once low =
     (λ _. eq-eqb (get_or ids v 0) (get_or ids v 0) refl)
 
 -- so the number of an id is where it stands
-number-at : (ids : List ℕ) (v : ℕ) → Distinct ids → v < length ids → number_of ids (get_or ids v 0) ≡ Some v
+pub number-at : (ids : List ℕ) (v : ℕ) → Distinct ids → v < length ids → number_of ids (get_or ids v 0) ≡ Some v
 number-at ids v once low =
     ap (λ (b : Bool). cond b (Some (place ids (get_or ids v 0))) None) (member-get_or ids v 0 low) ∙ ap (λ (n : ℕ). Some n) (place-at ids v once low)
 

@@ -5,4 +5,5 @@ pub mod Ended
 pub mod Entering
 pub mod Fed
 pub mod Lines
+pub mod Ordered
 pub mod Parts

@@ -17,7 +17,7 @@ use Rattle.kc_stream.specs.Ids.{with_names}
 use Rattle.kc_stream.specs.declared.gathered.Gathered.{Gathered}
 use Rattle.kc_stream.specs.declared.question.Question.{Question}
 use Rattle.kc_stream.proofs.Holding.{some-from}
-use Rattle.kc_watch.specs.Accounts.{Account, account_of, batch_behind, core_numbers_of, entered, graph_with, one_ended, with_batch}
+use Rattle.kc_watch.specs.Accounts.{Account, account_of, batch_behind, core_numbers_of, entered, graph_with, layers_of, one_ended, with_batch}
 use Rattle.kc_watch.specs.Endings.{IsAccountBefore}
 use Rattle.kc_watch.specs.Text.{answer_in, batch_text, open_text, part_text, question_answer, start_line}
 use Rattle.kc_watch.specs.Watching.{KeepsAccount, graph_gathered}
@@ -121,9 +121,10 @@ module _ (gathered : Gathered) (told : Told) (h : Holds gathered told) where
 
   -- a question is answered of them, and of the graph that is kept
   pub question-kept : (kept : Kept) (ended : ℕ) (question : Question) → KeepsAccount (Some kept) ended told
-      → answer_to question (take kept.keeper.graph.size gathered.ids) (core_numbers_of kept.keeper.graph) ≡ question_answer told question
+      → answer_to question (take kept.keeper.graph.size gathered.ids) (core_numbers_of kept.keeper.graph) (layers_of kept.keeper.graph)
+      ≡ question_answer told question
   question-kept kept ended question k =
-      ap₂ (λ (l : List ℕ) (g : SimpleGraph). answer_to question l (core_numbers_of g)) (known-ids kept ended k) k.1
+      ap₂ (λ (l : List ℕ) (g : SimpleGraph). answer_to question l (core_numbers_of g) (layers_of g)) (known-ids kept ended k) k.1
       ∙ ap (λ (b : Bool). cond b (answer_in (account_of told.edges told.earlier) question) []) (sym k.0)
 
   -- before any batch line it is answered nothing

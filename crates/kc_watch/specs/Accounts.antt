@@ -4,6 +4,8 @@ use Rattle.kc_graph.specs.Core.{greatest}
 use Rattle.kc_graph.specs.Growing.{with_vertices}
 use Rattle.kc_graph.specs.SimpleGraph.{SimpleGraph}
 use Rattle.kc_graph.proofs.Existence.{certificate_exists}
+use Rattle.kc_graph.proofs.Law.{certified-core_numbers}
+use Rattle.kc_tally.proofs.Existing.{layers-exist}
 use Rattle.kc_text.specs.declared.change.ChangeLine.{ChangeLine}
 use Rattle.kc_text.specs.Inputs.{EdgeBatch, numbered_batch, start_graph}
 use Rattle.kc_text.specs.Meaning.{ends, ends_of}
@@ -15,6 +17,11 @@ use Rattle.kc_stream.specs.Ids.{with_names}
 -- `every_graph_has_its_core_numbers` says both of this one.
 abbrev pub core_numbers_of : SimpleGraph → List ℕ
 core_numbers_of g = (certificate_exists g).0
+
+-- The layers of a graph, with those of each core number counted from 0 (Hébert-Dufresne, Grochow and Allard 2016). Each graph has one list
+-- of them, and no other list is its layers: the law `every_graph_has_its_layers` says both of this one.
+abbrev pub layers_of : SimpleGraph → List ℕ
+layers_of g = let c = certificate_exists g in (layers-exist g c.0 (certified-core_numbers g c.0 c.1 c.2)).0
 
 -- the greatest core number of a graph, or 0 where it has no vertices
 abbrev pub top_of : SimpleGraph → ℕ

@@ -1,5 +1,5 @@
 -- The text that answers a stream.
-use Rattle.std.specs.Prelude.{ℕ, List, [], ◌∷◌, ◌++◌, Option, Some, None, codes, is_some, if◌then◌else◌}
+use Rattle.std.specs.Prelude.{◌≡◌, ℕ, List, [], ◌∷◌, ◌++◌, Option, Some, None, codes, is_some, if◌then◌else◌}
 use Rattle.std.specs.FinSet as set
 use Rattle.std.specs.Fmt.{decimal}
 use Rattle.kc_graph.specs.SimpleGraph.{SimpleGraph}
@@ -13,14 +13,16 @@ use Rattle.kc_text.specs.Meaning.{Told}
 use Rattle.kc_batch_effects.specs.Batches.{added, kept, removed}
 use Rattle.kc_report.specs.Lines.{batch_line, graph_line}
 use Rattle.kc_changes.specs.Changed.{lines_behind}
-use Rattle.kc_answers.specs.Answers.{answer_to}
+use Rattle.kc_answers.specs.Answers.{answer_to, order_line}
 use Rattle.kc_stream.specs.Asking.{stream_lines}
 use Rattle.kc_stream.specs.Ended.{ended}
 use Rattle.kc_stream.specs.Hearing.{Heard, hear, heard_at_end, nothing_heard}
 use Rattle.kc_stream.specs.declared.question.Question.{Question}
+use Rattle.kc_stream.specs.declared.question.Question.TheVariants.{Order}
 use Rattle.kc_stream.specs.declared.stream_line.StreamLine.{StreamLine}
 use Rattle.kc_stream.specs.declared.stream_line.StreamLine.TheVariants.{Tells, Asks}
-use Rattle.kc_watch.specs.Accounts.{Account, account_of, account_of_start, batch_behind, core_number_in, core_numbers_of, one_ended, top_of, with_batch}
+use Rattle.kc_watch.specs.Accounts.{Account, account_of, account_of_start, batch_behind, core_number_in, core_numbers_of, layers_of, one_ended}
+use Rattle.kc_watch.specs.Accounts.{top_of, with_batch}
 use Rattle.kc_watch.specs.declared.options.WatchOptions.{WatchOptions}
 
 -- the line about the graph of the start
@@ -69,9 +71,14 @@ told_answer options dropped told Batch = ending_text options dropped told
 told_answer options dropped told (Change c) = []
 told_answer options dropped told (Wrong kind) = []
 
--- the line that answers a question behind an account, of its ids and of the core numbers of its graph
+-- the line that answers a question behind an account, of its ids and of the core numbers and the layers of its graph
 abbrev pub answer_in : Account → Question → List ℕ
-answer_in account question = answer_to question account.ids (core_numbers_of account.graph)
+answer_in account question = answer_to question account.ids (core_numbers_of account.graph) (layers_of account.graph)
+
+-- the first of two ids stands before the second, whichever of them is asked for first
+abbrev pub IsAnsweredBefore : Account → ℕ → ℕ → Type 0
+IsAnsweredBefore account a b =
+    (answer_in account (Order a b) ≡ order_line a b (codes " before")) × (answer_in account (Order b a) ≡ order_line b a (codes " after"))
 
 -- What a question is answered once others have told this. It speaks of what has ended, the start and the batches before the last one, and not
 -- of the one that is open. Before any batch line it is refused, and answered nothing.

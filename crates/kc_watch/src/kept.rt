@@ -1,14 +1,14 @@
 //! The graph behind the batches that have ended, and what ends one more.
-ghost use Rattle.std.specs.Prelude.{◌≡◌, ◌≤◌, ◌++◌, All, IfOk, OnErr, OnOk, length, take};
+ghost use Rattle.std.specs.Prelude.{◌≡◌, ◌≤◌, ◌++◌, true, All, IfOk, OnErr, OnOk, length, take};
 ghost use Rattle.std.specs.Io.{StartsWith};
 ghost use Rattle.kc_graph.specs.SimpleGraph.{SimpleGraph};
 ghost use Rattle.kc_text.specs.Deciding.{last_batch};
 ghost use Rattle.kc_text.specs.Inputs.{EdgeBatch};
 ghost use Rattle.kc_report.specs.Lines.{line_text};
-ghost use Rattle.kc_answers.specs.Answers.{answer_to};
+ghost use Rattle.kc_answers.specs.Answers.{answer_to, needs_layers};
 ghost use Rattle.kc_changes.specs.Changed.{lines_behind};
 ghost use Rattle.kc_stream.specs.Gathering.{IsUpdateBelow};
-ghost use Rattle.kc_watch.specs.Accounts.{Account, core_number_in, core_numbers_of, entered, graph_with};
+ghost use Rattle.kc_watch.specs.Accounts.{Account, core_number_in, core_numbers_of, entered, graph_with, layers_of};
 ghost use Rattle.kc_watch.specs.Effects.{AreEffects};
 ghost use Rattle.kc_watch.specs.Endings.{AreMoves, HasEndedBetween, IsAccountBefore};
 ghost use Rattle.kc_watch.specs.Text.{batch_text, line_about};
@@ -17,12 +17,13 @@ use crate::NoMemory;
 use crate::batch::{Effects, grow_to, make};
 use crate::listing::changes_of;
 use crate::options::WatchOptions;
-use kc_answers::put_answer;
+use kc_answers::{needs_layers, put_answer};
 use kc_changes::put_changes;
 use kc_graph::greatest;
 use kc_keeper::{Changes, Keeper};
 use kc_report::{Line, summary};
 use kc_stream::{Gathered, Ids, Question};
+use kc_tally::layers;
 use std::alloc::Global;
 
 /// The graph behind the batches that have ended, and what the last one changed.
@@ -181,6 +182,18 @@ impl Kept {
         let end = BatchEnd { line, known };
         self.put_end_or_nothing(alloc, options, &end, gathered.ids().names(), out)
     }
+
+    /// The layers of the graph where the answer to a question needs them, computed anew, and else none.
+    fn layers_for(&self, alloc: Global, question: Question) -> Result<Vec<u32>, NoMemory>
+        ensures { IfOk result (λ layer. needs_layers question ≡ true → layer.items ≡ layers_of self.now.keeper.graph) }
+    {
+        if !needs_layers(question) {
+            return Ok(Vec::new(alloc));
+        }
+        let graph = self.keeper.graph().to_graph(alloc)?;
+        layers(alloc, &graph, self.keeper.core_numbers())
+    }
+
     /// Puts the line that answers a question about the graph, whose vertices stand for the first of these ids. Where there is no memory,
     /// nothing is put.
     pub(crate) fn answer(
@@ -192,9 +205,12 @@ impl Kept {
     ) -> Result<(), NoMemory>
         requires { self.now.keeper.graph.size ≤ length ids.now }
         ensures ok { OnOk result (out.new.items ≡ out.old.items
-            ++ answer_to question (take self.now.keeper.graph.size ids.now) (core_numbers_of self.now.keeper.graph)) }
+            ++ answer_to question (take self.now.keeper.graph.size ids.now) (core_numbers_of self.now.keeper.graph)
+            (layers_of self.now.keeper.graph)) }
         ensures err { OnErr result (out.new.items ≡ out.old.items) }
     {
-        put_answer(alloc, ids, self.keeper.core_numbers(), question, out)
+        let layer = self.layers_for(alloc, question)?;
+        let core = self.keeper.core_numbers();
+        put_answer(alloc, ids, core, &layer, question, out)
     }
 }

@@ -1,14 +1,16 @@
 //! What holds of the text that answers a stream, as laws over the definitions alone. A law is a function without a body, whose contract is
 //! the law.
-ghost use Rattle.std.specs.Prelude.{◌≡◌, ◌≤◌, ◌<◌, ◌↔◌, ◌++◌, ◌∷◌, [], List, None, Option, ℕ, slice_index};
+ghost use Rattle.std.specs.Prelude.{◌≡◌, ◌≤◌, ◌<◌, ◌↔◌, ◌++◌, ◌∷◌, [], AllPairs, List, None, Option, ℕ, slice_index};
+ghost use Rattle.kc_graph.specs.Certificate.{Certifies};
 ghost use Rattle.kc_graph.specs.Core.{AreCoreNumbers, IsInCore};
 ghost use Rattle.kc_graph.specs.SimpleGraph.{SimpleGraph};
+ghost use Rattle.kc_tally.specs.Layers.{AreLayers};
 ghost use Rattle.kc_text.specs.declared.change.ChangeLine.{ChangeLine};
 ghost use Rattle.kc_changes.specs.declared.show.Show.{Show};
 ghost use Rattle.kc_stream.specs.Hearing.{heard_at_end, heard_so_far};
 ghost use Rattle.kc_stream.specs.declared.bad_lines.BadLines.TheVariants as on_bad;
-ghost use Rattle.kc_watch.specs.Accounts.{account_of, core_numbers_of, one_ended};
-ghost use Rattle.kc_watch.specs.Text.{reply, reply_at_end};
+ghost use Rattle.kc_watch.specs.Accounts.{account_of, core_numbers_of, layers_of, one_ended};
+ghost use Rattle.kc_watch.specs.Text.{IsAnsweredBefore, reply, reply_at_end};
 ghost use Rattle.kc_watch.specs.declared.options.WatchOptions.{WatchOptions};
 
 /// Each graph has its core numbers, and no other list of numbers is its core numbers.
@@ -20,6 +22,19 @@ pub fn every_graph_has_its_core_numbers()
 /// Who has the core number K or a greater one is in the K-core, and nobody else: so these are whom the question for a core is answered.
 pub fn the_core_has_who_has_its_number()
     ensures { (g : SimpleGraph) (k v : ℕ) → v < g.size → (k ≤ slice_index (core_numbers_of g) v) ↔ IsInCore g k v }
+{}
+
+/// Each graph has its layers, and no other list of numbers is its layers.
+pub fn every_graph_has_its_layers()
+    ensures has { (g : SimpleGraph) → AreLayers g (core_numbers_of g) (layers_of g) }
+    ensures alone { (g : SimpleGraph) (core layer : List ℕ) → AreCoreNumbers g core → AreLayers g core layer → layer ≡ layers_of g }
+{}
+
+/// Behind any batches one order of the vertices certifies the core numbers in which each two stand as is answered of their ids.
+pub fn the_order_that_is_answered_certifies()
+    ensures { (edges : List (ℕ × ℕ)) (batches : List (List ChangeLine)) → let account = account_of edges batches in
+        (order : List ℕ) × Certifies account.graph (core_numbers_of account.graph) order
+        × AllPairs (λ v w. IsAnsweredBefore account (slice_index account.ids v) (slice_index account.ids w)) order }
 {}
 
 /// To no bytes nothing is answered.

@@ -275,6 +275,48 @@ fn questions(rt: HostRuntime) -> Result<(), Fail> {
 }
 
 #[test]
+fn orders(rt: HostRuntime) -> Result<(), Fail> {
+    // A path, whose ends go first. The batch that is open makes it a ring, of which all go at once.
+    check(
+        &rt,
+        b"5 4\n4 3\n3 2\n2 1\nbatch\n? order 5 1\n? order 1 2\n? order 3 4\n? order\t3  3\n+ 1 5\n? order 4 3\nbatch\n? order 4 3\n? order 1 5\n",
+        b"graph vertices 5 edges 4 top 1\n\
+          order 5 1 after\norder 1 2 before\norder 3 4 after\norder 3 3 same\norder 4 3 before\n\
+          batch 1 added 1 removed 0 kept 0 edges 5 top 2\n\
+          order 4 3 after\norder 1 5 before\n\
+          batch 2 added 0 removed 0 kept 0 edges 5 top 2\n",
+    )?;
+    // A triangle that an id of core number 1 hangs on, and ids that are not known yet.
+    check(
+        &rt,
+        b"1 2\n2 3\n3 1\n3 9\nbatch\n? order 9 1\n? order 3 9\n? order 2 3\n+ 9 7\n? order 7 9\n? order 9 7\n? order 7 7\nbatch\n? order 7 9\n",
+        b"graph vertices 4 edges 4 top 2\n\
+          order 9 1 before\norder 3 9 after\norder 2 3 before\norder 7 9 -\norder 9 7 -\norder 7 7 -\n\
+          batch 1 added 1 removed 0 kept 0 edges 5 top 2\n\
+          order 7 9 before\n\
+          batch 2 added 0 removed 0 kept 0 edges 5 top 2\n",
+    )?;
+    check_refused(&rt, b"1 2\n? order 1 2\n", b"", 2, Kind::UpdateOutsideBatch)
+}
+
+#[test]
+fn wrong_orders(rt: HostRuntime) -> Result<(), Fail> {
+    let start = b"graph vertices 0 edges 0 top 0\n";
+    check_refused(&rt, b"batch\n? order", start, 2, Kind::MissingField)?;
+    check_refused(&rt, b"batch\n? order 1\n", start, 2, Kind::MissingField)?;
+    check_refused(&rt, b"batch\n? order x 1 2\n", start, 2, Kind::NotANumber)?;
+    check_refused(&rt, b"batch\n? order 1 x 2\n", start, 2, Kind::NotANumber)?;
+    check_refused(&rt, b"batch\n? order 1 2 x\n", start, 2, Kind::ExtraField)?;
+    check_refused(
+        &rt,
+        b"batch\n? order 1 4294967296\n",
+        start,
+        2,
+        Kind::NumberTooLarge,
+    )
+}
+
+#[test]
 fn wrong_questions(rt: HostRuntime) -> Result<(), Fail> {
     let start = b"graph vertices 0 edges 0 top 0\n";
     check_refused(&rt, b"batch\n? x y z\n? 1\n", start, 2, Kind::NotANumber)?;
