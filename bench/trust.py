@@ -38,6 +38,9 @@ MODEL = re.compile(r"impl(?:<[^{]*>)? Model for (\w+)")
 GHOST_USE = re.compile(r"^ *(?:ghost )?use (\w+\.[\w.]*\w)(?:\.\{(.*)\}| as (\w+));?$", re.M)
 USE = re.compile(r"^(?:pub )?use ((?:\w+::)+)(?:\{([^}]*)\}|(\w+(?: as \w+)?));", re.M)
 
+# A lemma within a part of a file that has premises of its own, and any other line that stands as deep.
+INNER = re.compile(r"  (?:pub ([A-Za-z][\w'◌-]*)\s*:|\S)")
+
 
 class File:
     """The words that a file defines, each with its text, and what its imports lead to: a module or a Rust path, and a name there."""
@@ -62,6 +65,8 @@ class File:
             if line[0] not in " })]":
                 begins = DEFINED.match(line)
                 here = begins.group(1) if begins else "" if is_lemma else line.split()[0]
+            elif is_lemma and INNER.match(line):
+                here = INNER.match(line).group(1) or ""
             if not here:
                 continue
             self.words[here] = self.words.get(here, "") + line + "\n"
