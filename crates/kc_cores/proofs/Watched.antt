@@ -14,12 +14,12 @@ use Rattle.kc_cores.specs.WatchEnded.{HasEndedBy, HasEndedSo, WatchEnded}
 use Rattle.kc_cores.specs.declared.CoresStatus.{CoresStatus}
 use Rattle.kc_cores.specs.declared.CoresStatus.TheVariants as status
 
--- the line that is refused is the one that the end of the dialogue is about
-pub HasEndedSo-is : (how : DialogueEnd) (found so_far at_end : Option Refusal) (end : CoresStatus) (line : List ℕ)
+-- what is told is what the end of the dialogue is about
+pub HasEndedSo-is : (how : DialogueEnd) (found so_far at_end : Option Refusal × ℕ) (end : CoresStatus) (line : List ℕ)
     → (how ≡ dialogue.Ended → found ≡ so_far) → (how ≡ dialogue.Done → found ≡ at_end) → HasEndedSo how found found end line
     → HasEndedSo how so_far at_end end line
-HasEndedSo-is dialogue.Done found so_far at_end end line one two h = subst (λ (r : Option Refusal). HasEndedBy r end line) (two refl) h
-HasEndedSo-is dialogue.Ended found so_far at_end end line one two h = subst (λ (r : Option Refusal). HasEndedBy r end line) (one refl) h
+HasEndedSo-is dialogue.Done found so_far at_end end line one two h = subst (λ (r : Option Refusal × ℕ). HasEndedBy r.0 r.1 end line) (two refl) h
+HasEndedSo-is dialogue.Ended found so_far at_end end line one two h = subst (λ (r : Option Refusal × ℕ). HasEndedBy r.0 r.1 end line) (one refl) h
 HasEndedSo-is dialogue.ReadFault found so_far at_end end line one two h = h
 HasEndedSo-is dialogue.Exhausted found so_far at_end end line one two h = h
 HasEndedSo-is dialogue.ReaderGone found so_far at_end end line one two h = h

@@ -140,6 +140,11 @@ stream_sentence kind = sentence_of kind
 abbrev pub stream_refused_line : Refusal → List ℕ
 stream_refused_line refusal = codes "cores: " ++ (at_line refusal.line ++ (codes ": " ++ (stream_sentence refusal.kind ++ 10 ∷ [])))
 
+-- `cores: 3 batches were refused`
+abbrev pub refused_batches_line : ℕ → List ℕ
+refused_batches_line count =
+    if count == 1 then codes "cores: 1 batch was refused\n" else codes "cores: " ++ (decimal count ++ codes " batches were refused\n")
+
 -- why a file was not opened, in the words of the operating system
 abbrev pub fault_sentence : FileFault → List ℕ
 fault_sentence Missing = codes "No such file or directory"

@@ -23,6 +23,8 @@ use Rattle.kc_dialect.specs.declared.dialect.Separator.{Separator}
 use Rattle.kc_dialect.specs.declared.dialect.Separator.TheVariants.{Blank, Comma, Semicolon, Tab}
 use Rattle.kc_changes.specs.declared.show.Show.{Show}
 use Rattle.kc_changes.specs.declared.show.Show.TheVariants.{Changes, Summary}
+use Rattle.kc_stream.specs.declared.bad_lines.BadLines.{BadLines as StreamBadLines}
+use Rattle.kc_stream.specs.declared.bad_lines.BadLines.TheVariants as on_bad
 use Rattle.kc_watch.specs.declared.options.WatchOptions.{WatchOptions}
 use Rattle.kc_lines.specs.declared.format.Format.{Format}
 use Rattle.kc_lines.specs.declared.format.Format.TheVariants.{Json, Tabs}
@@ -135,7 +137,7 @@ stream_command = new_app (codes "watch")
 
 -- the command that answers a stream
 abbrev pub watch_command : App
-watch_command = with_rule (with_rule stream_command (value_option (codes "show"))) enter_option
+watch_command = with_rule (with_rule (with_rule stream_command (value_option (codes "show"))) enter_option) (value_option (codes "bad-lines"))
 
 -- the command that reads the words, with a command of its own for each task, for the check and for a stream
 abbrev pub cores_command : App
@@ -360,14 +362,26 @@ abbrev pub show_in : Option Text → Option Show
 show_in None = Some Summary
 show_in (Some text) = show_of text
 
--- what a stream is to be answered, where both parts are right
-abbrev pub options_of : Option Show → Option (Option ℕ) → Option WatchOptions
-options_of (Some show) (Some enter) = Some (record { show = show; enter = enter })
-options_of _ _ = None
+-- what becomes of bad lines of a stream, by this word
+abbrev pub stream_bad_lines_of : Text → Option StreamBadLines
+stream_bad_lines_of text =
+    if bytes_eq text (codes "stop") then Some on_bad.Stop else if bytes_eq text (codes "batch") then Some on_bad.Batch else None
+
+-- what becomes of bad lines of a stream: they end the answers where nothing else is said
+abbrev pub stream_bad_lines_in : Option Text → Option StreamBadLines
+stream_bad_lines_in None = Some on_bad.Stop
+stream_bad_lines_in (Some text) = stream_bad_lines_of text
+
+-- what a stream is to be answered, where all parts are right
+abbrev pub options_of : Option Show → Option (Option ℕ) → Option StreamBadLines → Option WatchOptions
+options_of (Some show) (Some enter) (Some bad) = Some (record { show = show; enter = enter; bad_lines = bad })
+options_of _ _ _ = None
 
 -- what a stream is to be answered, by the matches of the command
 abbrev pub options_in : List Row → Option WatchOptions
-options_in rows = options_of (show_in (first_of (codes "show") rows)) (level_in (first_of (codes "enter") rows))
+options_in rows =
+    options_of (show_in (first_of (codes "show") rows)) (level_in (first_of (codes "enter") rows))
+    (stream_bad_lines_in (first_of (codes "bad-lines") rows))
 
 -- what the command `watch` asks for
 abbrev pub watch_wish : Option WatchOptions → Wish

@@ -1,14 +1,15 @@
-//! The words about a stream: what it is answered beside the lines of its graph and of its batches.
+//! The words about a stream: what it is answered beside the lines of its graph and of its batches, and what becomes of bad lines.
 ghost use Rattle.std.specs.Prelude.{◌≡◌, IfOk, false, option_map};
 ghost use Rattle.clap.specs.Simple.{app_of};
 ghost use Rattle.clap.specs.Walk.{rule_of};
 ghost use Rattle.clap.specs.declared.builder.command.Command.TheViews.{out-Command};
-ghost use Rattle.kc_cores.specs.Wishes.{enter_option, options_of, show_in, show_of, stream_command, watch_command};
+ghost use Rattle.kc_cores.specs.Wishes.{enter_option, options_of, show_in, show_of, stream_bad_lines_in, stream_bad_lines_of, stream_command};
+ghost use Rattle.kc_cores.specs.Wishes.{watch_command};
 
 use crate::dialect_words::value_option;
 use clap::{Arg, ArgAction, Command};
 use kc_graph::NoMemory;
-use kc_watch::{Show, WatchOptions};
+use kc_watch::{BadLines, Show, WatchOptions};
 use std::alloc::Global;
 
 /// The option `--enter K`.
@@ -49,8 +50,15 @@ pub(crate) fn watch_command<'a>(alloc: Global) -> Result<Command<'a>, NoMemory>
         "WHAT",
         "What is written behind the line of a batch: summary for nothing, or changes for a line ID OLD NEW for each id that changes",
     );
+    let bad_lines = value_option(
+        alloc,
+        "bad-lines",
+        "WHAT",
+        "What becomes of a refused line in a batch: stop to end the answers, or batch to drop its batch and go on with the next",
+    );
     let shown = stream_command(alloc).arg(show)?;
-    shown.arg(enter_option(alloc))
+    let entered = shown.arg(enter_option(alloc))?;
+    entered.arg(bad_lines)
 }
 
 /// What is shown of core numbers, by this word.
@@ -74,12 +82,41 @@ pub(crate) fn show_in(text: Option<&str>) -> Option<Show>
     }
 }
 
-/// What a stream is to be answered, where both parts are right.
-pub(crate) fn options_of(show: Option<Show>, enter: Option<Option<u32>>) -> Option<WatchOptions>
-    ensures { result ≡ options_of show enter }
+/// What becomes of bad lines of a stream, by this word.
+fn stream_bad_lines_of(text: &str) -> Option<BadLines>
+    ensures { result ≡ stream_bad_lines_of text.now }
 {
-    match (show, enter) {
-        (Some(show), Some(enter)) => Some(WatchOptions { show, enter }),
+    match text {
+        "stop" => Some(BadLines::Stop),
+        "batch" => Some(BadLines::Batch),
+        _ => None,
+    }
+}
+
+/// What becomes of bad lines of a stream: they end the answers where nothing else is said.
+pub(crate) fn stream_bad_lines_in(text: Option<&str>) -> Option<BadLines>
+    ensures { result ≡ stream_bad_lines_in (option_map (λ t. t.now) text.entry) }
+{
+    match text {
+        None => Some(BadLines::Stop),
+        Some(text) => stream_bad_lines_of(text),
+    }
+}
+
+/// What a stream is to be answered, where all parts are right.
+pub(crate) fn options_of(
+    show: Option<Show>,
+    enter: Option<Option<u32>>,
+    bad_lines: Option<BadLines>,
+) -> Option<WatchOptions>
+    ensures { result ≡ options_of show enter bad_lines }
+{
+    match (show, enter, bad_lines) {
+        (Some(show), Some(enter), Some(bad_lines)) => Some(WatchOptions {
+            show,
+            enter,
+            bad_lines,
+        }),
         _ => None,
     }
 }

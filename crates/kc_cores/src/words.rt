@@ -18,7 +18,7 @@ ghost use Rattle.kc_cores.specs.Endings.{IsReplyFor, IsRequestFor, RepliesTo, qu
 use crate::dialect_words::{file_named, ids_option, number_of, text_in, with_dialect};
 use crate::output_words::{format_in, format_option, output_option};
 use crate::request::{CheckRequest, NamedText, Request, SaveRequest, StreamRequest, Task, Wanted};
-use crate::watch_words::{options_of, show_in, watch_command};
+use crate::watch_words::{options_of, show_in, stream_bad_lines_in, watch_command};
 use clap::error::ErrorKind;
 use clap::{Arg, ArgAction, ArgMatches, Command, Error};
 use kc_graph::NoMemory;
@@ -510,16 +510,17 @@ fn options_in(found: &ArgMatches<'_>) -> Option<WatchOptions>
     ensures { result ≡ options_in (rows_of (found_of found.now)) }
 {
     let show = show_in(found.get_str("show"));
-    options_of(show, level_in(found.get_str("enter")))
+    let enter = level_in(found.get_str("enter"));
+    options_of(show, enter, stream_bad_lines_in(found.get_str("bad-lines")))
 }
 
-/// What is replied where the value of the option `--show` is not right.
+/// What is replied where the value of an option about a stream is not right.
 fn wrong_show(alloc: Global) -> Reply
     ensures { RepliesTo result (Replies (ErrorKind.ValueValidation ∷ [])) }
 {
     match String::from_str(
         alloc,
-        "cores: --show takes summary or changes, and --enter a number\n",
+        "cores: --show takes summary or changes, --enter a number, and --bad-lines stop or batch\n",
     ) {
         Ok(text) => Reply::Mistake(text),
         Err(_) => Reply::NoMemory,

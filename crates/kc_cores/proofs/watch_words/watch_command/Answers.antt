@@ -1,4 +1,4 @@
--- The two options add their rules to the command.
+-- The three options add their rules to the command.
 use Rattle.std.proofs.Common.{ap₂, ◌∙◌}
 use Rattle.std.proofs.lemmas.Result.{IfOk-weaker}
 use Rattle.clap.specs.Simple.{with_rule}
@@ -6,7 +6,9 @@ use Rattle.kc_cores.proofs.watch_words.watch_command.Goals as goal
 
 pub returns-clause-app : goal.returns-clause-app
 returns-clause-app c =
-    IfOk-weaker c.arg-2.result _ _
-    (λ made h. h.shape c.enter_option.ensures.local
+    IfOk-weaker c.arg-3.result _ _
+    (λ made h. h.shape c.value_option-bad_lines.ensures.local
+    ∙ ap₂ with_rule (c.in_ok-entered.ensures.shape c.enter_option.ensures.local
     ∙ ap₂ with_rule (c.in_ok-shown.ensures.shape c.value_option-show.ensures.local
-    ∙ ap₂ with_rule c.stream_command.ensures.app c.value_option-show.ensures.rule) c.enter_option.ensures.rule) c.arg-2.ensures
+    ∙ ap₂ with_rule c.stream_command.ensures.app c.value_option-show.ensures.rule) c.enter_option.ensures.rule)
+    c.value_option-bad_lines.ensures.rule) c.arg-3.ensures

@@ -1,9 +1,9 @@
 -- The options are read as the definition reads their rows.
-use Rattle.std.proofs.Common.{◌≡◌, ◌∙◌, ap, ap₂, codes}
+use Rattle.std.proofs.Common.{◌≡◌, ◌∙◌, ap, codes}
 use Rattle.clap.specs.Matches.{found_of}
 use Rattle.clap.specs.Walk.{first_of, rows_of}
 use Rattle.clap.proofs.WalkLemmas.{first_value-rows}
-use Rattle.kc_cores.specs.Wishes.{level_in, options_of, show_in}
+use Rattle.kc_cores.specs.Wishes.{level_in, options_of, show_in, stream_bad_lines_in}
 use Rattle.kc_cores.proofs.words.options_in.Goals as goal
 
 pub returns : goal.returns
@@ -12,6 +12,8 @@ returns c =
     let rows = rows_of found in
     let show : c.show_in-show.result ≡ show_in (first_of (codes "show") rows) =
     c.show_in-show.ensures ∙ ap show_in (c.get_str.ensures ∙ first_value-rows found (codes "show")) in
-    let enter : c.level_in.result ≡ level_in (first_of (codes "enter") rows) =
-    c.level_in.ensures ∙ ap level_in (c.get_str-2.ensures ∙ first_value-rows found (codes "enter")) in
-    c.options_of.ensures ∙ ap₂ options_of show enter
+    let enter : c.level_in-enter.result ≡ level_in (first_of (codes "enter") rows) =
+    c.level_in-enter.ensures ∙ ap level_in (c.get_str-2.ensures ∙ first_value-rows found (codes "enter")) in
+    let bad : c.stream_bad_lines_in.result ≡ stream_bad_lines_in (first_of (codes "bad-lines") rows) =
+    c.stream_bad_lines_in.ensures ∙ ap stream_bad_lines_in (c.get_str-3.ensures ∙ first_value-rows found (codes "bad-lines")) in
+    c.options_of.ensures ∙ (λ i. options_of (show i) (enter i) (bad i))
