@@ -12,14 +12,16 @@ use Rattle.kc_claims.specs.Insisting.{HasCount, HasFollowed, HasInsisted, HasIns
 use Rattle.kc_claims.specs.LineFaults.{HasFaultyLine, first_line_fault, last_pair}
 use Rattle.kc_claims.specs.Streams.{HoldsOfStream, IsFaultOfStream}
 use Rattle.kc_claims.specs.Sweeping.{Agrees, HasSwept, IsFirstMiscount}
+use Rattle.kc_claims.specs.Judging.{AreCounted, HasLookedFor, TellLines}
 use Rattle.kc_claims.specs.declared.claim.Claim.{Claim}
+use Rattle.kc_claims.specs.declared.claimed.ClaimLines.{ClaimLines}
 use Rattle.kc_claims.specs.declared.fault.ClaimFault.{ClaimFault}
 use Rattle.kc_claims.specs.declared.fault.ClaimFault.TheVariants.{Unknown, Repeated, Missing, ManyLater, FewSupporters}
 use Rattle.kc_claims.specs.declared.fault.FaultyLine.{FaultyLine}
 use Rattle.kc_claims.specs.declared.insisting.Insisting.{Insisting}
 use Rattle.kc_claims.specs.declared.sweep.Sweep.{Sweep}
 use Rattle.kc_claims.proofs.LineFaulting.{clean-append, faulty-append, last_pair-append}
-use Rattle.kc_claims.proofs.Streamed.{certified-stream, faulty-ids, met-claims, unknown-stream}
+use Rattle.kc_claims.proofs.Streamed.{certified-stream, faulty-ids, met-claims, told-counted, unknown-stream}
 
 -- once a line is wrong, it stays the first
 pub HasInsisted-stays : (start old : Insisting) (before lines : List ℕ) (f : FaultyLine) → EndsLine before → HasInsisted start old before
@@ -84,7 +86,7 @@ IsCountFault-miscount claims order later supporters (FewSupporters claim count) 
 
 module _ (claims : List Claim) (order : List ℕ) (now : Insisting) (known : Option (List ℕ)) (h : HasInsistedFor claims order now known) where
   -- where no line is wrong, all edges of the stream were counted
-  pub swept-all : now.fault ≡ None → IsFedWith HasSwept h.begun.sweep now.sweep known GRAPH.bytes
+  pub swept-all : now.fault ≡ None → IsFedWith HasSwept h.sweep now.sweep known GRAPH.bytes
   swept-all none = record {
     text = h.fed.text;
     read = h.fed.read;
@@ -97,41 +99,43 @@ module _ (claims : List Claim) (order : List ℕ) (now : Insisting) (known : Opt
   HasFaultyLine-kept wrong is = record {
     text = h.fed.text;
     read = h.fed.read;
-    ids = h.begun.sweep.ids.items;
-    order = h.begun.order.items;
-    core = h.begun.sweep.core.items;
-    rank = h.begun.sweep.rank.items;
-    ascending = h.begun_for.swept.counted.ascending;
-    told = h.begun_for.told;
+    ids = h.sweep.ids.items;
+    order = order;
+    core = h.sweep.core.items;
+    rank = h.sweep.rank.items;
+    ascending = h.begun.swept.counted.ascending;
+    told = h.begun.told;
     first =
         ap (λ (s : Sweep). first_line_fault s.ids.items 0 None (all_said h.fed.text)) (sym h.same_sweep) ∙ sym h.fed.took.first ∙ is;
   }
 
-  module _ (none : now.fault ≡ None) (later supporters : List ℕ) (l : later ≡ now.sweep.later.items) (s : supporters ≡ now.sweep.supporters.items) where
-    -- what holds of these lists holds of those that are kept
-    kept : (P : List ℕ → List ℕ → List ℕ → Type 0) → P order later supporters → P h.begun.order.items now.sweep.later.items now.sweep.supporters.items
-    kept P p =
-        subst (λ (xs : List ℕ). P xs now.sweep.later.items now.sweep.supporters.items) h.same_order
-        (subst (λ (xs : List ℕ). P order now.sweep.later.items xs) s (subst (λ (xs : List ℕ). P order xs supporters) l p))
-
+  module _ (none : now.fault ≡ None) where
     -- the claims are a certificate
-    pub certified-ascending : ((i : ℕ) → i < length claims → Agrees claims order later supporters i)
-        → ((i : ℕ) → i < length claims → HasCount later supporters (at order i))
+    pub certified-ascending : ((i : ℕ) → i < length claims → Agrees claims order now.sweep.later.items now.sweep.supporters.items i)
+        → ((i : ℕ) → i < length claims → HasCount now.sweep.later.items now.sweep.supporters.items (at order i))
         → HoldsOfStream (λ ids g. AreCertificate ids g claims × TellCoreNumbers ids g claims) known
     certified-ascending agree counted =
-        certified-stream claims h.begun h.begun_for now.sweep known (swept-all none)
-        (met-claims claims h.begun h.begun_for now.sweep known (swept-all none)
-        (kept (λ o l s. (i : ℕ) → i < length claims → HasCount l s (at o i)) counted))
-        (kept (λ o l s. (i : ℕ) → i < length claims → Agrees claims o l s i) agree)
+        certified-stream claims order h.sweep h.begun now.sweep known (swept-all none)
+        (met-claims claims order h.sweep h.begun now.sweep known (swept-all none) counted) agree
 
     -- they are none
-    pub faulty-ascending : (fault : ClaimFault) → IsCountFault claims order later supporters fault → IsFaultOfStream claims fault known
-    faulty-ascending fault f = go fault (kept (λ o l s. IsCountFault claims o l s fault) f)
-      where
-        go : (fault : ClaimFault) → IsCountFault claims h.begun.order.items now.sweep.later.items now.sweep.supporters.items fault
-            → IsFaultOfStream claims fault known
-        go (Unknown claim) (agree, first) = unknown-stream claims h.begun h.begun_for now.sweep known (swept-all none) claim agree first
-        go (Repeated claim) first = absurd first
-        go (Missing id) first = absurd first
-        go (ManyLater claim count) first = faulty-ids claims h.begun h.begun_for now.sweep known (swept-all none) (ManyLater claim count) first
-        go (FewSupporters claim count) first = faulty-ids claims h.begun h.begun_for now.sweep known (swept-all none) (FewSupporters claim count) first
+    pub faulty-ascending : (fault : ClaimFault) → IsCountFault claims order now.sweep.later.items now.sweep.supporters.items fault
+        → IsFaultOfStream claims fault known
+    faulty-ascending (Unknown claim) (agree, first) = unknown-stream claims order h.sweep h.begun now.sweep known (swept-all none) claim agree first
+    faulty-ascending (Repeated claim) first = absurd first
+    faulty-ascending (Missing id) first = absurd first
+    faulty-ascending (ManyLater claim count) first = faulty-ids claims order h.sweep h.begun now.sweep known (swept-all none) (ManyLater claim count) first
+    faulty-ascending (FewSupporters claim count) first =
+        faulty-ids claims order h.sweep h.begun now.sweep known (swept-all none) (FewSupporters claim count) first
+
+-- where no line is wrong, the sweep has a count of each kind for each vertex of the claims
+pub AreCounted-looked : (claims : List Claim) (order : List ℕ) (now : Insisting) (lines : ClaimLines) (known : Option (List ℕ))
+    → HasLookedFor claims order now lines known → now.fault ≡ None → AreCounted claims order now.sweep lines
+AreCounted-looked claims order now lines known h none =
+    let counted = (swept-all claims order now known h.insisted none).took.counted in
+    record {
+      told = told-counted claims order h.insisted.sweep h.insisted.begun now.sweep known (swept-all claims order now known h.insisted none);
+      stand = subst (λ (v : Vec ℕ Global). TellLines claims order v.items lines) (sym counted.rank) h.stand;
+      later_each = counted.tally.later_each;
+      supporters_each = counted.tally.supporters_each;
+    }

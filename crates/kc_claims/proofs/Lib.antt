@@ -11,3 +11,7 @@ pub mod Counted
 pub mod Streamed
 pub mod LineFaulting
 pub mod Insisted
+pub mod Gathered
+pub mod Placed
+pub mod Judged
+pub mod Seconds

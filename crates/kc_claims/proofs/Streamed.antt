@@ -21,7 +21,6 @@ use Rattle.kc_claims.specs.Sweeping.{Agrees, HasBegunFor, HasCounted, HasSwept, 
 use Rattle.kc_claims.specs.declared.claim.Claim.{Claim}
 use Rattle.kc_claims.specs.declared.fault.ClaimFault.{ClaimFault}
 use Rattle.kc_claims.specs.declared.fault.ClaimFault.TheVariants.{Unknown, Repeated, Missing, ManyLater, FewSupporters}
-use Rattle.kc_claims.specs.declared.stream.Begun.{Begun}
 use Rattle.kc_claims.specs.declared.sweep.Sweep.{Sweep}
 use Rattle.kc_claims.proofs.Certified.{AreCertificate-between, IsFirstFault-miscount}
 use Rattle.kc_claims.proofs.Rising.{ids-apart}
@@ -45,10 +44,10 @@ pub some-weaker : {A : Type 0} (P Q : A → Type 0) (value : Option A) → ((a :
 some-weaker P Q None weaker h = tt
 some-weaker P Q (Some a) weaker h = weaker a h
 
-module _ (claims : List Claim) (begun : Begun) (h : HasBegunFor claims begun) (now : Sweep) (known : Option (List ℕ))
-    (fed : IsFedWith HasSwept begun.sweep now known GRAPH.bytes) where
+module _ (claims : List Claim) (order : List ℕ) (start : Sweep) (h : HasBegunFor claims order start) (now : Sweep) (known : Option (List ℕ))
+    (fed : IsFedWith HasSwept start now known GRAPH.bytes) where
   -- what was counted
-  abbrev c : HasCounted begun.sweep now fed.took.edges
+  abbrev c : HasCounted start now fed.took.edges
   c = fed.took.counted
 
   abbrev ids : List ℕ
@@ -61,11 +60,11 @@ module _ (claims : List Claim) (begun : Begun) (h : HasBegunFor claims begun) (n
   rank = now.rank.items
 
   -- the claims tell the vertices these numbers and ranks
-  told : TellEach ids claims begun.order.items core rank
-  told =
-      subst (λ (v : Vec ℕ Global). TellEach v.items claims begun.order.items core rank) (sym c.ids)
-      (subst (λ (v : Vec ℕ Global). TellEach begun.sweep.ids.items claims begun.order.items v.items rank) (sym c.core)
-      (subst (λ (v : Vec ℕ Global). TellEach begun.sweep.ids.items claims begun.order.items begun.sweep.core.items v.items) (sym c.rank) h.told))
+  pub told-counted : TellEach ids claims order core rank
+  told-counted =
+      subst (λ (v : Vec ℕ Global). TellEach v.items claims order core rank) (sym c.ids)
+      (subst (λ (v : Vec ℕ Global). TellEach start.ids.items claims order v.items rank) (sym c.core)
+      (subst (λ (v : Vec ℕ Global). TellEach start.ids.items claims order start.core.items v.items) (sym c.rank) h.told))
 
   few_ids : length ids ≤ GRAPH.ids
   few_ids = omega (arith, h.few, ap (λ (v : Vec ℕ Global). length v.items) c.ids)
@@ -102,28 +101,28 @@ module _ (claims : List Claim) (begun : Begun) (h : HasBegunFor claims begun) (n
       (omega (arith, length-map fed.took.edges (named ids), c.counted, c.within))
 
   -- what agrees with the counts is between
-  between : (i : ℕ) → i < length claims → Agrees claims begun.order.items now.later.items now.supporters.items i
-      → IsBetween g core rank (at begun.order.items i)
+  between : (i : ℕ) → i < length claims → Agrees claims order now.later.items now.supporters.items i
+      → IsBetween g core rank (at order i)
   between i l (few, enough) =
-      let v : ℕ = at begun.order.items i in
-      let k : v < length core = omega (arith, told.all.vertices i l, size) in
+      let v : ℕ = at order i in
+      let k : v < length core = omega (arith, told-counted.all.vertices i l, size) in
       record {
-        few_later = omega (arith, few, told.all.numbers i l, later-is v k);
-        supported = omega (arith, enough, told.all.numbers i l, supporters-are v k);
+        few_later = omega (arith, few, told-counted.all.numbers i l, later-is v k);
+        supported = omega (arith, enough, told-counted.all.numbers i l, supporters-are v k);
       }
 
   -- the first claim that does not agree is the first fault in the graph with a vertex for each claimed id
-  first-fault : (fault : ClaimFault) → IsFirstMiscount claims begun.order.items now.later.items now.supporters.items fault → IsFirstFault ids g claims fault
+  first-fault : (fault : ClaimFault) → IsFirstMiscount claims order now.later.items now.supporters.items fault → IsFirstFault ids g claims fault
   first-fault fault first =
-      let v : ℕ = at begun.order.items first.place in
-      let k : v < length core = omega (arith, told.all.vertices first.place first.within, size) in
-      IsFirstFault-miscount ids g claims begun.order.items core rank told (claim_at claims first.place) first.place fault first.within refl
+      let v : ℕ = at order first.place in
+      let k : v < length core = omega (arith, told-counted.all.vertices first.place first.within, size) in
+      IsFirstFault-miscount ids g claims order core rank told-counted (claim_at claims first.place) first.place fault first.within refl
       (λ i l. between i (omega (arith, l, first.within)) (first.before i l))
       (miscount-at g core rank v (claim_at claims first.place) (at now.later.items v) (at now.supporters.items v) fault (later-is v k) (supporters-are v k)
       first.here)
 
   -- so it is told
-  pub faulty-ids : (fault : ClaimFault) → IsFirstMiscount claims begun.order.items now.later.items now.supporters.items fault
+  pub faulty-ids : (fault : ClaimFault) → IsFirstMiscount claims order now.later.items now.supporters.items fault
       → HoldsOfIds (λ ids g. IsFirstFault ids g claims fault) known
   faulty-ids fault first = record {
     text = fed.text;
@@ -138,12 +137,12 @@ module _ (claims : List Claim) (begun : Begun) (h : HasBegunFor claims begun) (n
   }
 
   -- where all claims agree, the first one of whose vertex nothing is counted is of an id that no line names
-  pub unknown-stream : (claim : Claim) → ((i : ℕ) → i < length claims → Agrees claims begun.order.items now.later.items now.supporters.items i)
-      → IsFirstUncounted claims begun.order.items now.later.items now.supporters.items claim → HoldsOfNames (λ ids. IsUnknown ids claims claim) known
+  pub unknown-stream : (claim : Claim) → ((i : ℕ) → i < length claims → Agrees claims order now.later.items now.supporters.items i)
+      → IsFirstUncounted claims order now.later.items now.supporters.items claim → HoldsOfNames (λ ids. IsUnknown ids claims claim) known
   unknown-stream claim all first =
-      let v : ℕ = at begun.order.items first.place in
-      let k : v < length core = omega (arith, told.all.vertices first.place first.within, size) in
-      let zero : at core v ≡ 0 = omega (arith, (all first.place first.within).1, told.all.numbers first.place first.within, first.no_supporter) in
+      let v : ℕ = at order first.place in
+      let k : v < length core = omega (arith, told-counted.all.vertices first.place first.within, size) in
+      let zero : at core v ≡ 0 = omega (arith, (all first.place first.within).1, told-counted.all.numbers first.place first.within, first.no_supporter) in
       record {
         text = fed.text;
         read = fed.read;
@@ -155,33 +154,33 @@ module _ (claims : List Claim) (begun : Begun) (h : HasBegunFor claims begun) (n
           is = first.is;
           unknown =
               ap (λ id. member id (names (edges_told (map (named ids) fed.took.edges))))
-              (ap (λ (x : Claim). x.id) first.is ∙ sym (told.all.named first.place first.within))
+              (ap (λ (x : Claim). x.id) first.is ∙ sym (told-counted.all.named first.place first.within))
               ∙ uncounted-unnamed ids core rank fed.took.edges c.ascending size (omega (arith, c.few, size)) once now.later.items now.supporters.items
               c.tally v k zero first.no_supporter;
           before = record {
             known = λ i l.
-                let here : at begun.order.items i < length core =
-                omega (arith, told.all.vertices i (omega (arith, l, first.within)), size) in
-                ap (λ id. member id (names (edges_told (map (named ids) fed.took.edges)))) (sym (told.all.named i (omega (arith, l, first.within))))
+                let here : at order i < length core =
+                omega (arith, told-counted.all.vertices i (omega (arith, l, first.within)), size) in
+                ap (λ id. member id (names (edges_told (map (named ids) fed.took.edges)))) (sym (told-counted.all.named i (omega (arith, l, first.within))))
                 ∙ counted-names ids core rank fed.took.edges c.ascending size (omega (arith, c.few, size)) once now.later.items now.supporters.items
-                c.tally (at begun.order.items i) here (first.before i l);
+                c.tally (at order i) here (first.before i l);
             once = λ i j l m same.
                 let k : j < length claims = omega (arith, m, first.within) in
                 let h : i < length claims = omega (arith, l, k) in
-                told.enumerates.distinct i j 0 l (omega (arith, told.all.one_each, k))
-                (ids-apart ids c.ascending (at begun.order.items i) (at begun.order.items j) (told.all.vertices i h) (told.all.vertices j k)
-                (told.all.named i h ∙ same ∙ sym (told.all.named j k)));
+                told-counted.enumerates.distinct i j 0 l (omega (arith, told-counted.all.one_each, k))
+                (ids-apart ids c.ascending (at order i) (at order j) (told-counted.all.vertices i h) (told-counted.all.vertices j k)
+                (told-counted.all.named i h ∙ same ∙ sym (told-counted.all.named j k)));
           };
         };
       }
 
   -- each vertex has a claim, so where something is counted of the vertices of all claims, something is counted of each
-  pub met-claims : ((i : ℕ) → i < length claims → HasCount now.later.items now.supporters.items (at begun.order.items i))
+  pub met-claims : ((i : ℕ) → i < length claims → HasCount now.later.items now.supporters.items (at order i))
       → (v : ℕ) → v < length now.later.items → HasCount now.later.items now.supporters.items v
   met-claims each v l =
-      let (i, k, is) = told.enumerates.complete v (omega (arith, l, c.tally.later_each, size)) in
-      subst (HasCount now.later.items now.supporters.items) (get_or_default begun.order.items i 0 v k ∙ is)
-      (each i (omega (arith, k, told.all.one_each)))
+      let (i, k, is) = told-counted.enumerates.complete v (omega (arith, l, c.tally.later_each, size)) in
+      subst (HasCount now.later.items now.supporters.items) (get_or_default order i 0 v k ∙ is)
+      (each i (omega (arith, k, told-counted.all.one_each)))
 
   module _ (met : (v : ℕ) → v < length now.later.items → (0 < at now.later.items v) ⊎ (0 < at now.supporters.items v)) where
     -- what holds of the ids and the graph of the stream
@@ -198,15 +197,15 @@ module _ (claims : List Claim) (begun : Begun) (h : HasBegunFor claims begun) (n
     }
 
     -- where all claims agree, they are a certificate
-    pub certified-stream : ((i : ℕ) → i < length claims → Agrees claims begun.order.items now.later.items now.supporters.items i)
+    pub certified-stream : ((i : ℕ) → i < length claims → Agrees claims order now.later.items now.supporters.items i)
         → HoldsOfStream (λ ids g. AreCertificate ids g claims × TellCoreNumbers ids g claims) known
     certified-stream all =
-        let certificate : AreCertificate ids g claims = AreCertificate-between ids g claims begun.order.items core rank told (sym g-size)
+        let certificate : AreCertificate ids g claims = AreCertificate-between ids g claims order core rank told-counted (sym g-size)
         (λ i l. between i l (all i l)) in
         holds (λ ids g. AreCertificate ids g claims × TellCoreNumbers ids g claims)
         (certificate, TellCoreNumbers-certificate ids g claims (sym g-size) certificate)
 
     -- the first claim that does not agree is the first fault
-    pub faulty-stream : (fault : ClaimFault) → IsFirstMiscount claims begun.order.items now.later.items now.supporters.items fault
+    pub faulty-stream : (fault : ClaimFault) → IsFirstMiscount claims order now.later.items now.supporters.items fault
         → HoldsOfStream (λ ids g. IsFirstFault ids g claims fault) known
     faulty-stream fault first = holds (λ ids g. IsFirstFault ids g claims fault) (first-fault fault first)

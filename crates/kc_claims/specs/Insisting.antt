@@ -11,7 +11,7 @@ use Rattle.kc_claims.specs.declared.claim.Claim.{Claim}
 use Rattle.kc_claims.specs.declared.fault.ClaimFault.{ClaimFault}
 use Rattle.kc_claims.specs.declared.fault.ClaimFault.TheVariants.{Unknown, Repeated, Missing, ManyLater, FewSupporters}
 use Rattle.kc_claims.specs.declared.insisting.Insisting.{Insisting}
-use Rattle.kc_claims.specs.declared.stream.Begun.{Begun}
+use Rattle.kc_claims.specs.declared.sweep.Sweep.{Sweep}
 
 -- no line of these bytes is wrong: their edges were counted, and their lines too
 pub record HasFollowed (start now : Insisting) (text : List ℕ) : Type 0 where
@@ -48,9 +48,8 @@ IsCountFault claims order later supporters (FewSupporters claim count) = IsFirst
 
 -- all bytes of a stream, which are all of what is known of them, were looked at, from where a sweep had begun for what claims tell
 pub record HasInsistedFor (claims : List Claim) (order : List ℕ) (now : Insisting) (known : Option (List ℕ)) : Type 0 where
-  pub begun : Begun
-  pub begun_for : HasBegunFor claims begun
-  pub same_order : order ≡ begun.order.items
+  pub sweep : Sweep
+  pub begun : HasBegunFor claims order sweep
   pub start : Insisting
-  pub same_sweep : start.sweep ≡ begun.sweep
+  pub same_sweep : start.sweep ≡ sweep
   pub fed : IsFedWith HasInsisted start now known GRAPH.bytes

@@ -3,10 +3,14 @@ pub mod Certificates
 pub mod Claims
 pub mod LineFaults
 pub mod Streams
+pub mod Tables
 -- What the crate's own functions speak of.
 pub mod Checking
 pub mod Feeding
+pub mod Gathering
 pub mod Insisting
+pub mod Judging
 pub mod Places
+pub mod Placing
 pub mod Sweeping
 pub mod Taking

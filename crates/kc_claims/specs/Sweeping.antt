@@ -17,7 +17,6 @@ use Rattle.kc_claims.specs.Places.{ArePlaces}
 use Rattle.kc_claims.specs.declared.claim.Claim.{Claim}
 use Rattle.kc_claims.specs.declared.fault.ClaimFault.{ClaimFault}
 use Rattle.kc_claims.specs.declared.fault.ClaimFault.TheVariants.{ManyLater, FewSupporters}
-use Rattle.kc_claims.specs.declared.stream.Begun.{Begun}
 use Rattle.kc_claims.specs.declared.sweep.Sweep.{Sweep}
 
 -- the ids of the ends of an edge
@@ -73,8 +72,8 @@ pub record IsFirstMiscount (claims : List Claim) (order later supporters : List 
   pub here : IsMiscountOf (claim_at claims place) (at later (at order place)) (at supporters (at order place)) fault
   pub before : (i : ℕ) → i < place → Agrees claims order later supporters i
 
--- a sweep has begun for what claims tell
-pub record HasBegunFor (claims : List Claim) (begun : Begun) : Type 0 where
-  pub told : TellEach begun.sweep.ids.items claims begun.order.items begun.sweep.core.items begun.sweep.rank.items
-  pub few : length begun.sweep.ids.items ≤ GRAPH.ids
-  pub swept : HasSwept begun.sweep begun.sweep []
+-- this sweep has begun for what claims tell, whose vertices stand in this order
+pub record HasBegunFor (claims : List Claim) (order : List ℕ) (start : Sweep) : Type 0 where
+  pub told : TellEach start.ids.items claims order start.core.items start.rank.items
+  pub few : length start.ids.items ≤ GRAPH.ids
+  pub swept : HasSwept start start []

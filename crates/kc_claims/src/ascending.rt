@@ -1,84 +1,37 @@
 //! Whether claims are a certificate of the core numbers of a graph whose edges have to come as an ascending stream.
-ghost use Rattle.std.specs.Prelude.{◌≡◌, ◌≢◌, ◌<◌, ℕ, Err, IfErr, IfOk, IfSome, IsErrOf, List, None, Option, Some, is_none, length, true};
-ghost use Rattle.kc_graph.specs.Peeling.{at};
+ghost use Rattle.std.specs.Prelude.{◌≡◌, ◌≢◌, ℕ, Err, IfErr, IfOk, IfSome, IsErrOf, List, None, Option, Some};
 ghost use Rattle.kc_io.specs.Causes.{Rose};
 ghost use Rattle.kc_claims.specs.Certificates.{AreCertificate, TellCoreNumbers};
-ghost use Rattle.kc_claims.specs.Insisting.{HasCount, HasInsistedFor, IsCountFault, IsFirstUncounted};
+ghost use Rattle.kc_claims.specs.Judging.{AreClaimed, HasLookedFor};
 ghost use Rattle.kc_claims.specs.LineFaults.{HasFaultyLine};
 ghost use Rattle.kc_claims.specs.Streams.{HoldsOfStream, IsFaultOfStream};
-ghost use Rattle.kc_claims.specs.Sweeping.{Agrees, HasBegunFor, IsFirstMiscount};
+ghost use Rattle.kc_claims.specs.Tables.{AreTabled};
 ghost use Rattle.kc_claims.specs.declared.claim.Claim.{Claim};
 ghost use Rattle.kc_claims.specs.declared.fault.FaultyLine.{FaultyLine};
 
-use crate::claim::Claim;
+use crate::claimed::{ClaimLines, Claimed, begin_table};
 use crate::fault::{CheckFault, ClaimFault, LineFault, StreamFault, Unswept};
 use crate::feeding::feed_all;
 use crate::insisting::Insisting;
-use crate::stream::{Begun, begin, first_miscount_of};
+use crate::judging::fault_by_counts;
+use crate::table::ClaimTable;
 use kc_io::source::Source;
 use std::alloc::Global;
 
-/// The first of the claims of whose vertex nothing is counted.
-fn first_uncounted(
-    order: &[u32],
-    later: &[u32],
-    supporters: &[u32],
-    claims: &[Claim],
-) -> Option<Claim>
-    requires one_each { length order.now ≡ length claims.now }
-    requires vertices { (i : ℕ) → i < length claims.now → (at order.now i < length later.now) × (at order.now i < length supporters.now) }
-    ensures found { IfSome result (IsFirstUncounted claims.now order.now later.now supporters.now) }
-    ensures none { is_none result ≡ true → (i : ℕ) → i < length claims.now → HasCount later.now supporters.now (at order.now i) }
-{
-    for (place, claim) in claims.iter().enumerate() {
-        let v = order[place] as usize;
-        if later[v] == 0 && supporters[v] == 0 {
-            return Some(*claim);
-        }
-    }
-    None
-}
-
-/// What is wrong with the claims by the counts, if anything is: a number, or else an id that no line names.
-fn fault_by_counts(
-    order: &[u32],
-    later: &[u32],
-    supporters: &[u32],
-    claims: &[Claim],
-) -> Option<ClaimFault>
-    requires one_each { length order.now ≡ length claims.now }
-    requires vertices { (i : ℕ) → i < length claims.now → (at order.now i < length later.now) × (at order.now i < length supporters.now) }
-    ensures found { IfSome result (IsCountFault claims.now order.now later.now supporters.now) }
-    ensures agree { is_none result ≡ true → (i : ℕ) → i < length claims.now → Agrees claims.now order.now later.now supporters.now i }
-    ensures counted { is_none result ≡ true → (i : ℕ) → i < length claims.now → HasCount later.now supporters.now (at order.now i) }
-{
-    if let Some(fault) = first_miscount_of(order, later, supporters, claims) {
-        return Some(fault);
-    }
-    match first_uncounted(order, later, supporters, claims) {
-        Some(claim) => Some(ClaimFault::Unknown(claim)),
-        None => None,
-    }
-}
-
 /// What is wrong with the claims, once all of a stream was looked at.
-fn judge(
-    claims: &[Claim],
-    order: &[u32],
-    insisting: &Insisting,
-) -> Result<Option<ClaimFault>, StreamFault>
-    requires { (known : Option (List ℕ)) × HasInsistedFor claims.now order.now insisting.now known }
-    ensures certified { (known : Option (List ℕ)) → HasInsistedFor claims.now order.now insisting.now known → IfOk result (λ found. found ≡ None
-        → HoldsOfStream (λ ids g. AreCertificate ids g claims.now × TellCoreNumbers ids g claims.now) known) }
-    ensures faulty { (known : Option (List ℕ)) → HasInsistedFor claims.now order.now insisting.now known
-        → IfOk result (λ found. IfSome found (λ fault. IsFaultOfStream claims.now fault known)) }
-    ensures line { (known : Option (List ℕ)) (faulty : FaultyLine) → HasInsistedFor claims.now order.now insisting.now known
-        → IsErrOf result (StreamFault.Line faulty) → HasFaultyLine claims.now known faulty }
+fn judge(insisting: &Insisting, lines: &ClaimLines) -> Result<Option<ClaimFault>, StreamFault>
+    requires { (claims : List Claim) × (order : List ℕ) × (known : Option (List ℕ)) × HasLookedFor claims order insisting.now lines.now known }
+    ensures certified { (claims : List Claim) (order : List ℕ) (known : Option (List ℕ)) → HasLookedFor claims order insisting.now lines.now known
+        → IfOk result (λ found. found ≡ None
+        → HoldsOfStream (λ ids g. AreCertificate ids g claims × TellCoreNumbers ids g claims) known) }
+    ensures faulty { (claims : List Claim) (order : List ℕ) (known : Option (List ℕ)) → HasLookedFor claims order insisting.now lines.now known
+        → IfOk result (λ found. IfSome found (λ fault. IsFaultOfStream claims fault known)) }
+    ensures line { (claims : List Claim) (order : List ℕ) (known : Option (List ℕ)) (faulty : FaultyLine)
+        → HasLookedFor claims order insisting.now lines.now known → IsErrOf result (StreamFault.Line faulty) → HasFaultyLine claims known faulty }
     ensures unread { result ≢ Err StreamFault.ReadFault }
 {
     let Some(faulty) = insisting.fault else {
-        let (later, supporters) = (&insisting.sweep.later, &insisting.sweep.supporters);
-        return Ok(fault_by_counts(order, later, supporters, claims));
+        return Ok(fault_by_counts(&insisting.sweep, lines));
     };
     match faulty.fault {
         LineFault::Unclaimed(id) => Ok(Some(ClaimFault::Missing(id))),
@@ -100,22 +53,23 @@ fn repeated(fault: ClaimFault) -> Result<Option<ClaimFault>, StreamFault>
 /// Looks all of a stream through, and tells what is wrong with the claims for which the sweep had begun.
 fn insist<S: Source>(
     alloc: Global,
-    claims: &[Claim],
-    begun: Begun,
+    claimed: Claimed,
     source: &mut S,
 ) -> Result<Option<ClaimFault>, StreamFault>
-    requires { HasBegunFor claims.now begun }
-    ensures certified { IfOk result (λ found. found ≡ None
-        → HoldsOfStream (λ ids g. AreCertificate ids g claims.now × TellCoreNumbers ids g claims.now) (S.left source.old)) }
-    ensures faulty { IfOk result (λ found. IfSome found (λ fault. IsFaultOfStream claims.now fault (S.left source.old))) }
-    ensures line { (faulty : FaultyLine) → IsErrOf result (StreamFault.Line faulty) → HasFaultyLine claims.now (S.left source.old) faulty }
+    requires { (claims : List Claim) × (order : List ℕ) × AreClaimed claims order claimed }
+    ensures certified { (claims : List Claim) (order : List ℕ) → AreClaimed claims order claimed → IfOk result (λ found. found ≡ None
+        → HoldsOfStream (λ ids g. AreCertificate ids g claims × TellCoreNumbers ids g claims) (S.left source.old)) }
+    ensures faulty { (claims : List Claim) (order : List ℕ) → AreClaimed claims order claimed
+        → IfOk result (λ found. IfSome found (λ fault. IsFaultOfStream claims fault (S.left source.old))) }
+    ensures line { (claims : List Claim) (order : List ℕ) (faulty : FaultyLine) → AreClaimed claims order claimed
+        → IsErrOf result (StreamFault.Line faulty) → HasFaultyLine claims (S.left source.old) faulty }
     ensures failed { IsErrOf result StreamFault.ReadFault → Rose (S.faults source.old) (S.faults source.new) }
     ensures faultless { result ≢ Err StreamFault.ReadFault → S.faults source.new ≡ S.faults source.old }
 {
-    let Begun { order, sweep } = begun;
+    let Claimed { sweep, lines } = claimed;
     let mut insisting = Insisting::new(sweep);
     match feed_all(alloc, source, &mut insisting) {
-        Ok(()) => judge(claims, &order, &insisting),
+        Ok(()) => judge(&insisting, &lines),
         Err(Unswept::ReadFault) => Err(StreamFault::ReadFault),
         Err(Unswept::Unfit) => Err(StreamFault::NoMemory),
         Err(Unswept::NoMemory) => Err(StreamFault::NoMemory),
@@ -124,7 +78,7 @@ fn insist<S: Source>(
 
 /// Whether claims are a certificate of the core numbers of the graph that the bytes of a source mean, which have to be an ascending stream:
 /// each edge has one line, the lesser id first, and each line is above the one before it, by its first id and then by its second. There may
-/// be comments. The graph is not made: it takes 24 bytes a vertex and a buffer beside the claims.
+/// be comments. The graph is not made. With the claims it takes 25 bytes a vertex and a buffer, and half a byte more where the ids are no row.
 ///
 /// `None` comes where they are a certificate, as [`check_claims`](crate::check_claims) tells it of the graph. Else it gives what shows that they
 /// are none: a claim of an id that an earlier one names, and then nothing is read; or the id of the first wrong line, where there is no claim of
@@ -137,28 +91,33 @@ fn insist<S: Source>(
 /// # Example
 ///
 /// ```rust
-/// use kc_claims::{check_ascending, claims_of};
+/// use kc_claims::{check_ascending, claims_from};
 /// use kc_io::mem_source::MemSource;
 ///
-/// let claims = claims_of(alloc, b"7 2\n8 2\n9 2\n")?;
+/// let text = Vec::from_slice(alloc, b"7 2\n8 2\n9 2\n")?;
+/// let mut certificate = MemSource::new(text, 4, Vec::new(alloc)); // four bytes at a time
+/// let claims = claims_from(alloc, &mut certificate)?;
 /// let text = Vec::from_slice(alloc, b"7 8\n8 9\n7 9\n")?;
-/// let mut source = MemSource::new(text, 4, Vec::new(alloc)); // four bytes at a time
-/// let fault = check_ascending(alloc, &claims, &mut source).err(); // Line, line 3, LineFault::Descends
+/// let mut source = MemSource::new(text, 4, Vec::new(alloc));
+/// let fault = check_ascending(alloc, claims, &mut source).err(); // Line, line 3, LineFault::Descends
 /// ```
 pub fn check_ascending<S: Source>(
     alloc: Global,
-    claims: &[Claim],
+    table: ClaimTable,
     source: &mut S,
 ) -> Result<Option<ClaimFault>, StreamFault>
-    ensures certified { IfOk result (λ found. found ≡ None
-        → HoldsOfStream (λ ids g. AreCertificate ids g claims.now × TellCoreNumbers ids g claims.now) (S.left source.old)) }
-    ensures faulty { IfOk result (λ found. IfSome found (λ fault. IsFaultOfStream claims.now fault (S.left source.old))) }
-    ensures line { (faulty : FaultyLine) → IsErrOf result (StreamFault.Line faulty) → HasFaultyLine claims.now (S.left source.old) faulty }
+    requires { (claims : List Claim) × AreTabled claims table }
+    ensures certified { (claims : List Claim) → AreTabled claims table → IfOk result (λ found. found ≡ None
+        → HoldsOfStream (λ ids g. AreCertificate ids g claims × TellCoreNumbers ids g claims) (S.left source.old)) }
+    ensures faulty { (claims : List Claim) → AreTabled claims table
+        → IfOk result (λ found. IfSome found (λ fault. IsFaultOfStream claims fault (S.left source.old))) }
+    ensures line { (claims : List Claim) (faulty : FaultyLine) → AreTabled claims table
+        → IsErrOf result (StreamFault.Line faulty) → HasFaultyLine claims (S.left source.old) faulty }
     ensures failed { IsErrOf result StreamFault.ReadFault → Rose (S.faults source.old) (S.faults source.new) }
     ensures faultless { result ≢ Err StreamFault.ReadFault → S.faults source.new ≡ S.faults source.old }
 {
-    match begin(alloc, claims) {
-        Ok(begun) => insist(alloc, claims, begun, source),
+    match begin_table(alloc, table) {
+        Ok(claimed) => insist(alloc, claimed, source),
         Err(CheckFault::Faulty(fault)) => repeated(fault),
         Err(CheckFault::NoMemory) => Err(StreamFault::NoMemory),
     }

@@ -27,6 +27,17 @@ impl From<NoMemory> for TextFault {
     }
 }
 
+/// Why a source gives no claims.
+#[derive(Clone, Copy, Debug, PartialEq, Eq)]
+pub enum SourceFault {
+    /// A line is refused.
+    Refused(Refusal),
+    /// The source failed.
+    ReadFault,
+    /// There is no memory for the claims.
+    NoMemory,
+}
+
 /// What shows that claims are no certificate, as the first that applies.
 #[derive(Clone, Copy, Debug, PartialEq, Eq)]
 pub enum ClaimFault {

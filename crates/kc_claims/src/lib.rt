@@ -17,16 +17,21 @@ mod ascending;
 mod checking;
 mod claim;
 mod claim_line;
+mod claimed;
 mod counting;
 mod edge_line;
 mod fault;
 mod feeding;
+mod gathering;
 mod insisting;
+mod judging;
 mod looking;
 mod places;
+mod placing;
 mod reading;
 mod stream;
 mod sweep;
+mod table;
 mod taking;
 
 ghost use Rattle.std.specs.Prelude.{◌≡◌, ℕ, List, length};
@@ -39,9 +44,13 @@ ghost use Rattle.kc_claims.specs.declared.fault.ClaimFault.{ClaimFault};
 pub use ascending::check_ascending;
 pub use checking::check_claims;
 pub use claim::Claim;
-pub use fault::{CheckFault, ClaimFault, FaultyLine, LineFault, StreamFault, TextFault, Unswept};
+pub use fault::{
+    CheckFault, ClaimFault, FaultyLine, LineFault, SourceFault, StreamFault, TextFault, Unswept,
+};
+pub use gathering::claims_from;
 pub use reading::claims_of;
 pub use stream::check_stream;
+pub use table::ClaimTable;
 
 /// A certificate has no fault. So where a check finds one, the claims are none.
 pub fn a_certificate_has_no_fault()

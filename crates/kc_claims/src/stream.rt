@@ -10,6 +10,7 @@ ghost use Rattle.kc_claims.specs.Sweeping.{Agrees, HasBegunFor, IsFirstMiscount,
 ghost use Rattle.kc_claims.specs.declared.fault.ClaimFault.{ClaimFault};
 
 use crate::claim::Claim;
+use crate::claimed::ascending;
 use crate::fault::{CheckFault, ClaimFault, Unswept};
 use crate::feeding::feed_all;
 use crate::sweep::Sweep;
@@ -46,9 +47,7 @@ fn claimed_ids(alloc: Global, claims: &[Claim]) -> Result<Vec<u32>, NoMemory>
     for claim in claims {
         ids.push(claim.id)?;
     }
-    ids.sort_unstable();
-    ids.dedup();
-    Ok(ids)
+    Ok(ascending(ids))
 }
 
 /// The ranks, where 32 bits hold them. Else there is no memory for so many claims.
@@ -84,7 +83,7 @@ fn taken_of(alloc: Global, ids: &[u32], claims: &[Claim]) -> Result<ShortTaken, 
 
 /// Begins a sweep for what claims tell the vertices of their ids. They are at fault where they name an id twice.
 pub(crate) fn begin(alloc: Global, claims: &[Claim]) -> Result<Begun, CheckFault>
-    ensures begun { IfOk result (HasBegunFor claims.now) }
+    ensures begun { IfOk result (λ begun. HasBegunFor claims.now begun.order.items begun.sweep) }
     ensures faulty { (fault : ClaimFault) → IsErrOf result (CheckFault.Faulty fault)
         → (ids : List ℕ) × ((g : SimpleGraph) → IsFirstFault ids g claims.now fault) }
 {
@@ -99,7 +98,7 @@ pub(crate) fn begin(alloc: Global, claims: &[Claim]) -> Result<Begun, CheckFault
 
 /// Begins a sweep. Claims that name an id twice are unfit.
 fn begun_for(alloc: Global, claims: &[Claim]) -> Result<Begun, Unswept>
-    ensures { IfOk result (HasBegunFor claims.now) }
+    ensures { IfOk result (λ begun. HasBegunFor claims.now begun.order.items begun.sweep) }
 {
     match begin(alloc, claims) {
         Ok(begun) => Ok(begun),
@@ -123,7 +122,7 @@ fn have_all_edges(later: &[u32], supporters: &[u32]) -> bool
 
 /// What is wrong with the number of a claim by the counts of its vertex, if anything is: there are too many later neighbours, or else too
 /// few supporters.
-fn miscount_of(claim: &Claim, later: u32, supporting: u32) -> Option<ClaimFault>
+pub(crate) fn miscount_of(claim: &Claim, later: u32, supporting: u32) -> Option<ClaimFault>
     ensures found { IfSome result (IsMiscountOf claim.now later supporting) }
     ensures none { is_none result ≡ true → (later ≤ claim.now.number) × (claim.now.number ≤ supporting) }
 {

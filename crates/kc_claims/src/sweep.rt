@@ -24,8 +24,8 @@ pub(crate) struct Sweep {
     /// Ascending: the vertex `v` stands for `ids[v]`.
     pub(crate) ids: Vec<u32>,
     pub(crate) places: Places,
-    core: Vec<u32>,
-    rank: Vec<u32>,
+    pub(crate) core: Vec<u32>,
+    pub(crate) rank: Vec<u32>,
     /// How many later neighbours each vertex has.
     pub(crate) later: Vec<u32>,
     /// How many supporters each vertex has.

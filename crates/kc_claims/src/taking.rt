@@ -111,7 +111,7 @@ fn take_all(
 }
 
 /// The least id whose vertex is not marked.
-fn first_unmarked(ids: &[u32], named: &[bool]) -> Option<u32>
+pub(crate) fn first_unmarked(ids: &[u32], named: &[bool]) -> Option<u32>
     requires { length named.now ≡ length ids.now }
     ensures found { IfSome result (λ id. IsUnmarkedFirst ids.now named.now id) }
     ensures none { is_none result ≡ true → (v : ℕ) → v < length ids.now → is_marked named.now v ≡ true }

@@ -55,7 +55,7 @@ fn claims_from<C: Source>(alloc: Global, name: &str, source: &mut C) -> Result<V
 }
 
 /// The claims of the certificate of this name.
-pub(crate) fn read_claims<C: FileInput>(
+fn read_claims<C: FileInput>(
     alloc: Global,
     name: &str,
     certificate: &mut C,

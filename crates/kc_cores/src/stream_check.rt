@@ -1,22 +1,28 @@
 //! The check of a certificate for an ascending stream, of which no graph is made.
-ghost use Rattle.std.specs.Prelude.{◌≡◌, IfErr, IfOk, IfSome, None, OnOk, option_map, string_bytes};
+ghost use Rattle.std.specs.Prelude.{◌≡◌, List, IfErr, IfOk, IfSome, None, OnOk, option_map, string_bytes};
 ghost use Rattle.kc_claims.specs.Certificates.{AreCertificate, TellCoreNumbers};
 ghost use Rattle.kc_claims.specs.Streams.{HoldsOfStream, IsFaultOfStream};
+ghost use Rattle.kc_claims.specs.Tables.{AreTabled, HoldsClaims};
+ghost use Rattle.kc_claims.specs.declared.claim.Claim.{Claim};
 ghost use Rattle.kc_cores.specs.CheckEnded.{IsRight};
-ghost use Rattle.kc_cores.specs.Endings.{HasNoStreamVerdict, IsUnopenedAt, NoStreamFor, TellsFaultyLineAt, line_of};
+ghost use Rattle.kc_cores.specs.Endings.{HasNoClaims, HasNoStreamVerdict, IsUnopenedAt, NoStreamFor, TellsFaultyLineAt, line_of};
 ghost use Rattle.kc_cores.specs.Inputs.{known_bytes};
 ghost use Rattle.kc_cores.specs.StreamChecked.{IsStreamWrong, StreamChecked, faulty_line, line_fault_sentence};
 ghost use Rattle.kc_io.specs.Causes.{Rose};
 
-use crate::checking::{read_claims, refute, say};
+use crate::checking::{refute, say};
 use crate::ending::{Ending, in_file, unopened};
 use crate::input::FileInput;
 use crate::message::Message;
 use crate::pipe::PipeSink;
 use crate::request::StreamRequest;
 use crate::sentences::sentence_of;
+use crate::verdict::claim_refused;
 use crate::{CoresStatus, CoresStreams};
-use kc_claims::{Claim, ClaimFault, FaultyLine, LineFault, StreamFault, check_ascending};
+use kc_claims::{
+    ClaimFault, ClaimTable, FaultyLine, LineFault, SourceFault, StreamFault, check_ascending,
+    claims_from,
+};
 use kc_graph::NoMemory;
 use kc_io::source::Source;
 use std::alloc::Global;
@@ -73,21 +79,55 @@ fn turn_to<I: FileInput>(alloc: Global, file: Option<&str>, input: &mut I) -> Re
     }
 }
 
+/// The claims of all that the source has left, in columns.
+fn table_from<C: Source>(alloc: Global, name: &str, source: &mut C) -> Result<ClaimTable, Ending>
+    ensures claims { IfOk result (λ table. (claims : List Claim) × HoldsClaims (C.left source.old) claims table) }
+    ensures stopped { IfErr result (λ ending. HasNoClaims ending name.now (C.left source.old) (C.faults source.old) (C.faults source.new)) }
+    ensures faultless { OnOk result (C.faults source.new ≡ C.faults source.old) }
+{
+    match claims_from(alloc, source) {
+        Ok(table) => Ok(table),
+        Err(SourceFault::Refused(refusal)) => Err(claim_refused(alloc, name, refusal)),
+        Err(SourceFault::ReadFault) => Err(Ending::read_fault()),
+        Err(SourceFault::NoMemory) => Err(Ending::no_memory()),
+    }
+}
+
+/// The claims of the certificate of this name, in columns.
+fn read_table<C: FileInput>(
+    alloc: Global,
+    name: &str,
+    certificate: &mut C,
+) -> Result<ClaimTable, Ending>
+    ensures claims { IfOk result (λ table. (claims : List Claim) × HoldsClaims (C.behind certificate.old name.now) claims table) }
+    ensures stopped { IfErr result (λ ending. HasNoClaims ending name.now (C.behind certificate.old name.now)
+        (C.faults certificate.old) (C.faults certificate.new)) }
+    ensures faultless { OnOk result (C.faults certificate.new ≡ C.faults certificate.old) }
+{
+    match certificate.open(name) {
+        Ok(()) => table_from(alloc, name, certificate),
+        Err(fault) => Err(unopened(alloc, name, fault)),
+    }
+}
+
 /// What shows that claims are no certificate of the graph of a stream, if anything does.
 fn judged<S: Source>(
     alloc: Global,
     file: Option<&str>,
-    claims: &[Claim],
+    table: ClaimTable,
     source: &mut S,
 ) -> Result<Option<ClaimFault>, Ending>
-    ensures right { IfOk result (λ found. found ≡ None
-        → HoldsOfStream (λ ids g. AreCertificate ids g claims.now × TellCoreNumbers ids g claims.now) (S.left source.old)) }
-    ensures wrong { IfOk result (λ found. IfSome found (λ fault. IsFaultOfStream claims.now fault (S.left source.old))) }
+    requires { (claims : List Claim) × AreTabled claims table }
+    ensures right { (claims : List Claim) → AreTabled claims table → IfOk result (λ found. found ≡ None
+        → HoldsOfStream (λ ids g. AreCertificate ids g claims × TellCoreNumbers ids g claims) (S.left source.old)) }
+    ensures wrong { (claims : List Claim) → AreTabled claims table
+        → IfOk result (λ found. IfSome found (λ fault. IsFaultOfStream claims fault (S.left source.old))) }
     ensures faultless { OnOk result (S.faults source.new ≡ S.faults source.old) }
-    ensures stopped { IfErr result (λ ending. NoStreamFor ending.status (line_of ending) (option_map (λ t. t.now) file.entry) claims.now
+    ensures stopped { (claims : List Claim) → AreTabled claims table
+        → IfErr result (λ ending. NoStreamFor ending.status (line_of ending) (option_map (λ t. t.now) file.entry) claims
         (S.left source.old) (S.faults source.old) (S.faults source.new)) }
 {
-    match check_ascending(alloc, claims, source) {
+    match check_ascending(alloc, table, source) {
         Ok(found) => Ok(found),
         Err(StreamFault::Line(faulty)) => Err(wrong_line(alloc, file, faulty)),
         Err(StreamFault::ReadFault) => Err(Ending::read_fault()),
@@ -113,9 +153,9 @@ fn verdict_on<I: FileInput, C: FileInput>(
         (known_bytes I.left I.behind (option_map (λ t. t.now) request.entry.file) input.old) (C.behind certificate.old request.entry.certificate.now)
         (I.faults input.old) (I.faults input.new) (C.faults certificate.old) (C.faults certificate.new)) }
 {
-    let claims = read_claims(alloc, request.certificate, certificate)?;
+    let table = read_table(alloc, request.certificate, certificate)?;
     match turn_to(alloc, request.file, input) {
-        Ok(()) => judged(alloc, request.file, &claims, input),
+        Ok(()) => judged(alloc, request.file, table, input),
         Err(ending) => Err(ending),
     }
 }

@@ -1,9 +1,10 @@
 //! Claims beside streams that have to ascend: a triangle of the ids 5, 7 and 8, with 9 that hangs on 8.
 use kc_claims::{
-    Claim, ClaimFault, FaultyLine, LineFault, StreamFault, check_ascending, claims_of,
+    Claim, ClaimFault, FaultyLine, LineFault, SourceFault, StreamFault, check_ascending,
+    claims_from,
 };
 use kc_io::mem_source::MemSource;
-use kc_text::Kind;
+use kc_text::{Kind, Refusal};
 use std::process::Abort;
 use std::test::Fail;
 
@@ -16,7 +17,19 @@ const ORDER: &[u8] = b"9 1\n5 2\n7 2\n8 2\n";
 /// What is told of claims and a stream.
 type Told = Result<Option<ClaimFault>, StreamFault>;
 
-/// What is told, where each read gives some bytes, and some reads fail.
+/// A source of these bytes, of which each read gives some, and some reads fail.
+fn source_of<R: AllocGlobal>(
+    rt: &R,
+    bytes: &[u8],
+    most: usize,
+    fails: &[u32],
+) -> Result<MemSource, Fail> {
+    let text = Vec::from_slice(rt.alloc(), bytes).map_err(|_| "no memory")?;
+    let fails = Vec::from_slice(rt.alloc(), fails).map_err(|_| "no memory")?;
+    Ok(MemSource::new(text, most.max(1), fails))
+}
+
+/// What is told, where each read of either source gives some bytes, and some reads of the edges fail.
 fn told<R: Abort + AllocGlobal>(
     rt: &R,
     certificate: &[u8],
@@ -24,11 +37,27 @@ fn told<R: Abort + AllocGlobal>(
     bytes: usize,
     fails: &[u32],
 ) -> Result<Told, Fail> {
-    let claims = claims_of(rt.alloc(), certificate).map_err(|_| "no claims")?;
-    let text = Vec::from_slice(rt.alloc(), edges).map_err(|_| "no memory")?;
-    let fails = Vec::from_slice(rt.alloc(), fails).map_err(|_| "no memory")?;
-    let mut source = MemSource::new(text, bytes.max(1), fails);
-    Ok(check_ascending(rt.alloc(), &claims, &mut source))
+    let mut certificate = source_of(rt, certificate, bytes, &[])?;
+    let mut source = source_of(rt, edges, bytes, fails)?;
+    match claims_from(rt.alloc(), &mut certificate) {
+        Ok(table) => Ok(check_ascending(rt.alloc(), table, &mut source)),
+        Err(_) => Err("no claims".into()),
+    }
+}
+
+/// Checks why a certificate gives no claims, whether few bytes come at once or many.
+fn check_refused<R: Abort + AllocGlobal>(
+    rt: &R,
+    certificate: &[u8],
+    line: u64,
+    kind: Kind,
+) -> Result<(), Fail> {
+    for bytes in [1, 2, 3, 7, 1000] {
+        let mut source = source_of(rt, certificate, bytes, &[])?;
+        let fault = claims_from(rt.alloc(), &mut source).err();
+        assert_eq!(rt; fault, Some(SourceFault::Refused(Refusal { line, kind })));
+    }
+    Ok(())
 }
 
 /// Checks that this is told, whether few bytes come at once or many.
@@ -110,6 +139,33 @@ fn the_first_line_that_is_no_edge_is_told(rt: HostRuntime) -> Result<(), Fail> {
     check_line(&rt, b"5 7\nbatch\n", 2, refused(Kind::TooManyBatches))?;
     check_line(&rt, b"+ 5 7\n", 1, refused(Kind::UpdateOutsideBatch))?;
     check_line(&rt, b"5 7\n5 x", 2, refused(Kind::NotANumber))
+}
+
+#[test]
+fn the_first_line_that_is_no_claim_is_told(rt: HostRuntime) -> Result<(), Fail> {
+    check_refused(&rt, b"9 1\n5\n7 2 2 2\n", 2, Kind::MissingField)?;
+    check_refused(&rt, b"# none\n\n9 1 2 3\nx\n", 3, Kind::ExtraField)?;
+    check_refused(&rt, b"9 1\n5 2\n7 2\n8 y", 4, Kind::NotANumber)?;
+    check_refused(&rt, b"4294967296 1\n", 1, Kind::NumberTooLarge)
+}
+
+#[test]
+fn the_line_of_a_claim_counts_comments(rt: HostRuntime) -> Result<(), Fail> {
+    let ranked = Claim {
+        line: 5,
+        id: 8,
+        number: 3,
+        rank: Some(0),
+    };
+    let few = ClaimFault::FewSupporters(ranked, 0);
+    check(
+        &rt,
+        b"# one\n9 1\n\n5 2\n8 3 0\n7 2 5",
+        EDGES,
+        Ok(Some(few)),
+    )?;
+    let many = ClaimFault::ManyLater(claim(2, 8, 2), 3);
+    check(&rt, b"\n8 2\n9 2\n5 2\n7 3\n", EDGES, Ok(Some(many)))
 }
 
 #[test]

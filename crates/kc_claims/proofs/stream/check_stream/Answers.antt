@@ -29,7 +29,7 @@ first_miscount_of-requires-clause-vertices g c = λ i l.
 pub returns-clause-certified : goal.returns-clause-certified
 returns-clause-certified g c = λ none.
     let now = c.feed_all.new.taker in
-    certified-stream c.args.claims.now _ c.in_ok-order.ensures now _ c.in_ok-feed_all.ensures.fed
+    certified-stream c.args.claims.now _ _ c.in_ok-order.ensures now _ c.in_ok-feed_all.ensures.fed
     (subst (λ (s : List ℕ). (v : ℕ) → v < length now.later.items → (0 < at now.later.items v) ⊎ (0 < at s v)) c.deref-2.ensures.value
     (subst (λ (l : List ℕ). (v : ℕ) → v < length l → (0 < at l v) ⊎ (0 < at c.deref-2.result.now v)) c.deref.ensures.value
     (c.have_all_edges.ensures c.if-not-have_all_edges.false)))
@@ -46,7 +46,7 @@ returns-clause-faulty g c =
     (λ (fault : ClaimFault). HoldsOfStream (λ ids h. IsFirstFault ids h c.args.claims.now fault) (g.S.Source.left c.args.source.now))
     c.first_miscount_of.result
     (λ fault first.
-    faulty-stream c.args.claims.now _ c.in_ok-order.ensures now _ c.in_ok-feed_all.ensures.fed
+    faulty-stream c.args.claims.now _ _ c.in_ok-order.ensures now _ c.in_ok-feed_all.ensures.fed
     (subst (λ (s : List ℕ). (v : ℕ) → v < length now.later.items → (0 < at now.later.items v) ⊎ (0 < at s v)) c.deref-2.ensures.value
     (subst (λ (l : List ℕ). (v : ℕ) → v < length l → (0 < at l v) ⊎ (0 < at c.deref-2.result.now v)) c.deref.ensures.value
     (c.have_all_edges.ensures c.if-not-have_all_edges.false)))

@@ -5,9 +5,9 @@ use Rattle.kc_cores.proofs.StreamChecking.{NoStreamFor-wrong}
 use Rattle.kc_cores.proofs.stream_check.judged.Goals as goal
 
 pub returns-in-Err-Line-clause-stopped : goal.returns-in-Err-Line-clause-stopped
-returns-in-Err-Line-clause-stopped g c =
+returns-in-Err-Line-clause-stopped g c = λ claims tabled.
     let line = rw c.in-Err-Line.field-0-is at c.in-Err-Line.ensures.line in
     let faultless = rw c.in-Err-Line.field-0-is at c.in-Err-Line.ensures.faultless in
     NoStreamFor-wrong c.wrong_line.result.status (line_of c.wrong_line.result) (option_map (λ t. t.now) c.args.file)
-    (g.S.Source.left c.args.source.now) c.args.claims.now c.in-Err-Line.faulty _ _ c.wrong_line.ensures (line c.in-Err-Line.faulty refl)
+    (g.S.Source.left c.args.source.now) claims c.in-Err-Line.faulty _ _ c.wrong_line.ensures (line claims c.in-Err-Line.faulty tabled refl)
     (faultless (λ e. absurd (cc)))

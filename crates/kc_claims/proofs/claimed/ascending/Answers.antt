@@ -4,7 +4,7 @@ use Rattle.std.specs.List.{dedup}
 use Rattle.std.specs.List.Sorted.{IsStrictlyIncreasing}
 use Rattle.std.proofs.lemmas.List.Filters.{dedup_is}
 use Rattle.std.proofs.lemmas.Map.Keys.{IsStrictlyIncreasing-dedup}
-use Rattle.kc_claims.proofs.stream.claimed_ids.Goals as goal
+use Rattle.kc_claims.proofs.claimed.ascending.Goals as goal
 
 pub returns : goal.returns
 returns c =

@@ -1,0 +1,93 @@
+//! The claims of a certificate in columns, so that they take little room.
+ghost use Rattle.std.specs.Prelude.{◌≡◌, ◌<◌, ◌++◌, ◌∷◌, [], List, OnOk, length};
+ghost use Rattle.kc_graph.specs.Peeling.{at};
+ghost use Rattle.kc_claims.specs.Certificates.{claim_at};
+ghost use Rattle.kc_claims.specs.Tables.{AreBefore, AreColumns, AreTabled, claim_of, short_rank};
+ghost use Rattle.kc_claims.specs.declared.claim.Claim.{Claim};
+
+use crate::claim::Claim;
+use kc_graph::NoMemory;
+use std::alloc::Global;
+
+/// The claims of a certificate in their order, with a column for each thing that they tell. A claim takes 17 bytes.
+#[derive(Drop)]
+pub struct ClaimTable {
+    pub(crate) ids: Vec<u32>,
+    pub(crate) numbers: Vec<u32>,
+    /// The rank that each claim tells, or else its place.
+    pub(crate) ranks: Vec<u32>,
+    /// Whether each claim tells a rank.
+    pub(crate) ranked: Vec<bool>,
+    pub(crate) lines: Vec<u32>,
+}
+
+/// The claim of this line.
+pub(crate) fn claim_of(line: u32, id: u32, number: u32, rank: u32, ranked: bool) -> Claim
+    ensures { result ≡ claim_of line id number rank ranked }
+{
+    Claim {
+        line: u64::from(line),
+        id,
+        number,
+        rank: if ranked { Some(rank) } else { None },
+    }
+}
+
+/// The rank that a claim tells, or else its place.
+fn short_rank(place: u32, rank: Option<u32>) -> u32
+    ensures { result ≡ short_rank place rank }
+{
+    match rank {
+        Some(rank) => rank,
+        None => place,
+    }
+}
+
+impl ClaimTable {
+    /// No claim.
+    pub(crate) fn new(alloc: Global) -> ClaimTable
+        ensures { AreTabled [] result }
+    {
+        ClaimTable {
+            ids: Vec::new(alloc),
+            numbers: Vec::new(alloc),
+            ranks: Vec::new(alloc),
+            ranked: Vec::new(alloc),
+            lines: Vec::new(alloc),
+        }
+    }
+
+    /// Puts a claim behind others, whose lines stand before its own. There is no memory for more than 2^32 claims or lines.
+    pub(crate) fn put(&mut self, claim: Claim) -> Result<(), NoMemory>
+        ensures { OnOk result ((claims : List Claim) → AreTabled claims self.old → AreBefore claims claim.line
+            → AreTabled (claims ++ claim ∷ []) self.new) }
+    {
+        let place = self.ids.len();
+        if place > u32::MAX as usize || claim.line > u64::from(u32::MAX) {
+            return Err(NoMemory);
+        }
+        self.ids.push(claim.id)?;
+        self.numbers.push(claim.number)?;
+        self.ranks.push(short_rank(place as u32, claim.rank))?;
+        self.ranked.push(claim.rank.is_some())?;
+        self.lines.push(claim.line as u32)?;
+        Ok(())
+    }
+
+    /// The claim at a place.
+    pub(crate) fn claim(&self, place: usize) -> Claim
+        requires ids { place < length self.now.ids.items }
+        requires columns { (claims : List Claim) × AreColumns claims self.now.numbers.items self.now.ranks.items self.now.ranked.items self.now.lines.items
+            × (length claims ≡ length self.now.ids.items) }
+        ensures { (claims : List Claim) → AreColumns claims self.now.numbers.items self.now.ranks.items self.now.ranked.items self.now.lines.items
+            → place < length claims → at self.now.ids.items place ≡ (claim_at claims place).id → result ≡ claim_at claims place }
+    {
+        claim_of(
+            self.lines[place],
+            self.ids[place],
+            self.numbers[place],
+            self.ranks[place],
+            self.ranked[place],
+        )
+    }
+}
