@@ -130,8 +130,8 @@ refused_line graph refusal =
 -- what was found wrong with a line of a stream, and how it is mended
 abbrev pub stream_sentence : Kind → List ℕ
 stream_sentence NotANumber = codes "a field is not a whole number; write ids of decimal digits, or begin the line with # if it is a comment"
-stream_sentence MissingField = codes "a number is missing; write two ids with a blank or a tab between them, or in a question ? ID or ? core K"
-stream_sentence ExtraField = codes "there are too many fields; write two ids, batch alone, or in a question ? ID, ? core K or ? sizes"
+stream_sentence MissingField = codes "a number is missing; write two ids with a blank or a tab between them, or in a question ? ID, ? core K or ? order A B"
+stream_sentence ExtraField = codes "there are too many fields; write two ids, batch alone, or in a question ? ID, ? core K, ? sizes or ? order A B"
 stream_sentence UpdateOutsideBatch = codes "a change or a question stands before any line batch; write a line batch before it"
 stream_sentence EdgeLineInBatch = codes "an edge stands after a line batch; begin the line with + or -"
 stream_sentence kind = sentence_of kind

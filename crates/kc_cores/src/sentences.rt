@@ -163,10 +163,10 @@ pub(crate) fn stream_sentence(kind: Kind) -> &'static str
             "a field is not a whole number; write ids of decimal digits, or begin the line with # if it is a comment"
         }
         Kind::MissingField => {
-            "a number is missing; write two ids with a blank or a tab between them, or in a question ? ID or ? core K"
+            "a number is missing; write two ids with a blank or a tab between them, or in a question ? ID, ? core K or ? order A B"
         }
         Kind::ExtraField =>
-            "there are too many fields; write two ids, batch alone, or in a question ? ID, ? core K or ? sizes",
+            "there are too many fields; write two ids, batch alone, or in a question ? ID, ? core K, ? sizes or ? order A B",
         Kind::UpdateOutsideBatch => {
             "a change or a question stands before any line batch; write a line batch before it"
         }
