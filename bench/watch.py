@@ -26,8 +26,8 @@ import fuzz
 HERE = pathlib.Path(__file__).resolve().parent
 SENTENCES = {
     1: "a field is not a whole number; write ids of decimal digits, or begin the line with # if it is a comment",
-    2: "a number is missing; write two ids with a blank or a tab between them, or in a question ? ID or ? core K",
-    3: "there are too many fields; write two ids, batch alone, or in a question ? ID, ? core K or ? sizes",
+    2: "a number is missing; write two ids with a blank or a tab between them, or in a question ? ID, ? core K or ? order A B",
+    3: "there are too many fields; write two ids, batch alone, or in a question ? ID, ? core K, ? sizes or ? order A B",
     4: "an id is greater than 4294967295; number the vertices anew with smaller ids",
     5: "a change names one id twice; remove the line",
     7: "a change or a question stands before any line batch; write a line batch before it",
@@ -43,6 +43,13 @@ def number_of(fields):
     if len(fields) > 1:
         raise fuzz.Refused(3)
     return number
+
+
+def two_numbers_of(fields):
+    """The two numbers that are all of the fields."""
+    if not fields:
+        raise fuzz.Refused(2)
+    return [fuzz.number_of(fields[0]), number_of(fields[1:])]
 
 
 class Options:
@@ -102,19 +109,44 @@ class Model:
 
     def answer(self, fields):
         """Answers a question of the core numbers behind the last batch that has ended."""
-        word = fields[0] if fields[:1] in ([b"core"], [b"sizes"]) else b""
-        number = None if word == b"sizes" else number_of(fields[1:] if word else fields)
+        word = fields[0] if fields[:1] in ([b"core"], [b"sizes"], [b"order"]) else b""
+        pair = two_numbers_of(fields[1:]) if word == b"order" else None
+        number = None if word in (b"sizes", b"order") else number_of(fields[1:] if word else fields)
         if word == b"sizes" and len(fields) > 1:
             raise fuzz.Refused(3)
         if not self.reader.batches:
             raise fuzz.Refused(7)
         if word == b"core":
             words = ["members", number, *sorted(id for id, core in self.cores.items() if core >= number)]
+        elif word == b"order":
+            words = ["order", *pair, self.order_of(*pair)]
         elif word == b"sizes":
             words = ["sizes", *(n for pair in sorted(collections.Counter(self.cores.values()).items()) for n in pair)]
         else:
             words = ["core", number, self.cores.get(number, "-")]
         self.text += " ".join(map(str, words)).encode() + b"\n"
+
+    def order_of(self, a, b):
+        """Where the first id stands to the second, in the order by core number, layer and id."""
+        if a not in self.cores or b not in self.cores:
+            return "-"
+        layers = self.layers()
+        first, second = ((self.cores[id], layers[id], id) for id in (a, b))
+        return "before" if first < second else "after" if second < first else "same"
+
+    def layers(self):
+        """The layer of each id: the round in which it goes among those of its core number, where all go that have few neighbours left above or beside."""
+        beside = collections.defaultdict(set)
+        for a, b in self.edges:
+            beside[a].add(b)
+            beside[b].add(a)
+        layers, step, left = {}, 0, set(self.cores)
+        while left:
+            going = {v for v in left if sum(self.cores[w] > self.cores[v] or (self.cores[w] == self.cores[v] and w in left) for w in beside[v]) <= self.cores[v]}
+            layers.update(dict.fromkeys(going, step))
+            left -= going
+            step += 1
+        return layers
 
     def end_part(self, number):
         """Ends the start, or the batch of this number from 1."""
@@ -147,14 +179,16 @@ class Model:
 
 # Lines of which each is refused at most places.
 WRONG = (b"x", b"1", b"1 2 3", b"1 4294967296", b"+ 1 1", b"- 1 2", b"1 2", b"batch 1", b"+ 1", b"-1 2")
-WRONG_QUESTIONS = (b"?", b"? x y z", b"? 1 2", b"? core", b"? core x", b"? core 1 2", b"? sizes 1", b"? 4294967296", b"?1", b"? batch")
+WRONG_QUESTIONS = (b"?", b"? x y z", b"? 1 2", b"? core", b"? core x", b"? core 1 2", b"? sizes 1", b"? 4294967296", b"?1", b"? batch", b"? order", b"? order 1",
+                   b"? order x 1", b"? order 1 x", b"? order 1 2 3", b"? order 1 4294967296 3")
 
 
 def random_question(rng, most):
-    """A question of an id, which may not be known, or of a level, or for the sizes; at times a wrong one."""
+    """A question of an id, which may not be known, or of a level, for the sizes, or for the order of two ids; at times a wrong one."""
     if rng.random() < 0.02:
         return rng.choice(WRONG_QUESTIONS)
-    return rng.choice((b"? sizes", f"? core {rng.randrange(4)}".encode(), f"?\t{rng.randrange(most + 2)}".encode(), f"? {rng.randrange(most + 2)}".encode()))
+    first, second = rng.randrange(most + 2), rng.randrange(most + 2)
+    return rng.choice(("? sizes", f"? core {rng.randrange(4)}", f"?\t{first}", f"? {first}", f"? order {first} {second}", f"? order {first} {second}")).encode()
 
 
 def random_stream(rng):
@@ -306,6 +340,7 @@ def check(what, is_so, must_be):
 CASES = (
     b"", b"\n", b"batch", b"batch\n", b"1 2", b"1 2\nbatch", b"1 2\n2 3\nbatch\n+ 1 3\nbatch\n+ 3 9\n- 1 2", b"1 x", b"1 2\nbatch\n+ 1 1\n+ 1 2\n",
     b"1 2\nbatch\n? 2\n+ 2 3\n? 3\nbatch\n? 3\n? core 1\n? sizes", b"? 1\n", b"batch\n? core 0\n? sizes\n", b"1 2\nbatch\n? x y z\n",
+    b"5 4\n4 3\n3 2\n2 1\nbatch\n? order 3 4\n+ 1 5\n? order 1 5\nbatch\n? order 5 1\n? order 9 1\n? order 3 3\n? order 1 3",
     b"1 2\nbatch\n1 3\n", b"+ 1 2\n", b"1 2\nbatch\n+ 2 3\nbatch x", b"4294967295 0\nbatch\n+ 4294967294 7\n", b"1 2\nbatch\n+ 1 2\n+ 1 2\n- 2 1\nbatch\n",
 )
 
