@@ -6,8 +6,9 @@ usage: watch.py [--cores PROGRAM] [--seed N] [--cases N] [--seconds N]
 
 A sender writes a piece of a random stream, waits for just the answer that the model has for all that was sent, and only then writes the
 next piece. An answer that does not come within the time, that is wrong or that comes before its bytes were sent is told, with the stream;
-the status is then 1. Short streams are cut at each byte. The streams name new ids in late batches, and some have a line that is refused:
-then the program has to end by itself, with status 3 and the line that tells the refusal, though the pipe stays open. Each stream also ends
+the status is then 1. Short streams are cut at each byte. The streams name new ids in late batches, and some have lines that are refused:
+then the program has to end by itself, with status 3 and the line that tells the refusal, though the pipe stays open. With `--bad-lines batch`,
+as half of them have it, it has to drop the batch of such a line and go on, and to tell at its end how many it dropped. Each stream also ends
 without a last newline. Among the changes stand questions, of known ids and others. Half of them are watched with `--show changes`, and a third with `--enter K`. At the end it tries a reader that goes away (`| head -1`), a folder as standard input, and /dev/full.
 """
 import argparse
@@ -53,13 +54,14 @@ def two_numbers_of(fields):
 
 
 class Options:
-    """What is asked for behind the line of a batch."""
+    """What is asked for behind the line of a batch, and whether a refused line drops its batch."""
 
-    def __init__(self, changes=False, enter=None):
-        self.changes, self.enter = changes, enter
+    def __init__(self, changes=False, enter=None, drops=False):
+        self.changes, self.enter, self.drops = changes, enter, drops
 
     def words(self):
-        return ["--show", "changes"] * self.changes + (["--enter", str(self.enter)] if self.enter is not None else [])
+        words = ["--show", "changes"] * self.changes + (["--enter", str(self.enter)] if self.enter is not None else [])
+        return words + ["--bad-lines", "batch"] * self.drops
 
     def lines(self, before, after):
         """The lines about the ids whose core numbers change; both are core numbers by id."""
@@ -77,6 +79,7 @@ class Model:
 
     def __init__(self, options):
         self.options, self.cores = options, {}
+        self.known, self.dropped, self.refused_batches = set(), None, 0
         self.reader, self.edges, self.text, self.begun, self.lines, self.refusal = fuzz.Reader(), set(), b"", b"", 0, None
 
     def feed(self, piece):
@@ -96,16 +99,34 @@ class Model:
         self.lines += 1
         before = len(self.reader.batches)
         fields = fuzz.fields_of(line.removesuffix(b"\r"))
+        if self.dropped and fields != [b"batch"] and fields[:1] != [b"?"]:
+            return
         try:
             if fields[:1] == [b"?"]:
                 self.answer(fields[1:])
             else:
                 self.reader.take(line)
         except fuzz.Refused as refusal:
-            self.refusal = f"cores: line {self.lines}: {SENTENCES[refusal.kind]}\n".encode()
+            self.refuse(refusal.kind)
             return
         if len(self.reader.batches) > before:
             self.end_part(before)
+            self.known = set(self.reader.ids)
+
+    def refuse(self, kind):
+        """The line ends the answers, or drops its batch; in a batch that is dropped only the first such line counts."""
+        if not (self.options.drops and self.reader.batches):
+            self.refusal = f"cores: line {self.lines}: {SENTENCES[kind]}\n".encode()
+        elif not self.dropped:
+            self.dropped = f"line {self.lines} kind {kind} {fuzz.NAMES[kind]}"
+            self.refused_batches += 1
+            self.reader.ids, self.reader.batches[-1] = set(self.known), []
+
+    def message(self):
+        """What the program tells of its run."""
+        count = self.refused_batches
+        counted = f"cores: {count} {'batch was' if count == 1 else 'batches were'} refused\n".encode() if count else b""
+        return self.refusal or counted
 
     def answer(self, fields):
         """Answers a question of the core numbers behind the last batch that has ended."""
@@ -155,6 +176,8 @@ class Model:
             self.edges = set(self.reader.edges)
             self.count_cores()
             lines = [f"graph vertices {len(self.reader.ids)} edges {len(self.edges)} top {self.top()}"]
+        elif self.dropped:
+            lines, self.dropped = [f"refused batch {number} {self.dropped}"], None
         else:
             lines = [self.end_batch(number, self.reader.batches[number - 1])] + self.options.lines(before, self.cores)
         self.text += b"".join(line.encode() + b"\n" for line in lines)
@@ -191,8 +214,8 @@ def random_question(rng, most):
     return rng.choice(("? sizes", f"? core {rng.randrange(4)}", f"?\t{first}", f"? {first}", f"? order {first} {second}", f"? order {first} {second}")).encode()
 
 
-def random_stream(rng):
-    """Edges, and batches whose ids grow, some of them with a line that is refused."""
+def random_stream(rng, broken):
+    """Edges, and batches whose ids grow, with so many lines that may be refused as one of the numbers in `broken`."""
     most, asking, lines = rng.choice((2, 4, 8)), rng.choice((0, 0.2, 0.6)), []
     for _ in range(rng.choice((0, 0, 1, 5, 12, 30))):
         lines.append(f"{rng.randrange(most)} {rng.randrange(most)}".encode())
@@ -208,8 +231,8 @@ def random_stream(rng):
                 lines.append(random_question(rng, most))
     for _ in range(rng.choice((0, 0, 1, 2))):
         lines.insert(rng.randrange(len(lines) + 1), rng.choice((b"# a comment", b"", b"  ", b"% x", b"\r")))
-    if rng.random() < 0.3:
-        lines.insert(rng.randrange(len(lines) + 1), rng.choice(WRONG))
+    for _ in range(rng.choice(broken)):
+        lines.insert(rng.randrange(len(lines) + 1), rng.choice(WRONG + WRONG_QUESTIONS))
     data = b"".join(line + rng.choice((b"\n", b"\n", b"\n", b"\r\n")) for line in lines)
     return data.rstrip(b"\n") if rng.random() < 0.4 else data
 
@@ -287,13 +310,13 @@ def converse(program, options, pieces, seconds):
             model.feed(piece)
             talk.expect(model.text)
             if model.refusal:
-                talk.finish(3, model.refusal)
+                talk.finish(3, model.message())
                 talk.expect(model.text)
                 return
         talk.process.stdin.close()
         model.end()
         talk.expect(model.text)
-        talk.finish(3 if model.refusal else 0, model.refusal or b"")
+        talk.finish(3 if model.refusal else 0, model.message())
         talk.read_up_to(len(model.text) + 1)
         talk.expect(model.text)
     finally:
@@ -341,21 +364,22 @@ CASES = (
     b"", b"\n", b"batch", b"batch\n", b"1 2", b"1 2\nbatch", b"1 2\n2 3\nbatch\n+ 1 3\nbatch\n+ 3 9\n- 1 2", b"1 x", b"1 2\nbatch\n+ 1 1\n+ 1 2\n",
     b"1 2\nbatch\n? 2\n+ 2 3\n? 3\nbatch\n? 3\n? core 1\n? sizes", b"? 1\n", b"batch\n? core 0\n? sizes\n", b"1 2\nbatch\n? x y z\n",
     b"5 4\n4 3\n3 2\n2 1\nbatch\n? order 3 4\n+ 1 5\n? order 1 5\nbatch\n? order 5 1\n? order 9 1\n? order 3 3\n? order 1 3",
+    b"1 2\nbatch\n+ 2 3\n+ 7 8\n+ 1 1\n? 7\n? 1\nx\n+ 1 3\nbatch\n? 7\n+ 1 3\n+ 3 2\nbatch\n- 1 2\n+ 9",
     b"1 2\nbatch\n1 3\n", b"+ 1 2\n", b"1 2\nbatch\n+ 2 3\nbatch x", b"4294967295 0\nbatch\n+ 4294967294 7\n", b"1 2\nbatch\n+ 1 2\n+ 1 2\n- 2 1\nbatch\n",
 )
 
 
 def cases_of(seed, count):
     """Each stream above cut at each byte, and then random ones."""
-    for options in (Options(), Options(True), Options(True, 1)):
+    for options in (Options(), Options(True), Options(True, 1), Options(True, drops=True)):
         for data in CASES:
             yield options, [data[at:at + 1] for at in range(len(data))]
             for at in range(len(data) + 1):
                 yield options, [piece for piece in (data[:at], data[at:]) if piece]
     for number in range(count):
         rng = random.Random(f"{seed} {number}")
-        options = Options(rng.random() < 0.5, rng.choice((None, None, 0, 1, 2, 3)))
-        yield options, pieces_of(rng, random_stream(rng))
+        options = Options(rng.random() < 0.5, rng.choice((None, None, 0, 1, 2, 3)), rng.random() < 0.5)
+        yield options, pieces_of(rng, random_stream(rng, (0, 1, 2, 5) if options.drops else (0, 0, 1)))
 
 
 def main():
