@@ -4,7 +4,7 @@ use Rattle.kc_graph.specs.SimpleGraph.{SimpleGraph}
 use Rattle.kc_graph.specs.Neighbours.{AreNeighbours}
 use Rattle.kc_graph.specs.declared.used.UsedEdges.{UsedEdges}
 use Rattle.kc_agree.proofs.Growing.{opened_with}
-use Rattle.kc_journal_tests.proofs.publishing.publish_each.Goals as goal
+use Rattle.kc_agree_tests.proofs.publishing.publish_each.Goals as goal
 
 pub publish-requires-clause-was : goal.publish-requires-clause-was
 publish-requires-clause-was g c =

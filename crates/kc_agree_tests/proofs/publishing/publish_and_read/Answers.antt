@@ -6,7 +6,7 @@ use denote.Struct.Tuple.{TupleAt}
 use denote.Param.Send.{IsSend, arg_send, param_send, shr_send}
 use Rattle.std.specs.Prelude.{[], ◌∷◌}
 use Rattle.kc_stripes.proofs.Crossing.{captures_send, graph_sync, pass_send, stripes_sync, words_sync}
-use Rattle.kc_journal_tests.proofs.publishing.publish_and_read.Goals as goal
+use Rattle.kc_agree_tests.proofs.publishing.publish_and_read.Goals as goal
 
 -- five values that may go to another thread may go together
 five_send : (ν : Sym) (A B C D E : RattleType) → IsSend A → IsSend B → IsSend C → IsSend D → IsSend E → IsSend (TupleAt ν (A ∷ B ∷ C ∷ D ∷ E ∷ []))

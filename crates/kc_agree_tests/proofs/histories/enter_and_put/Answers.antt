@@ -4,8 +4,8 @@ use Rattle.kc_words.specs.declared.shape.Shape.{Shape}
 use Rattle.kc_table.specs.Legal.{MayPut}
 use Rattle.kc_table.specs.Log.{Seen, TableName}
 use Rattle.kc_table.specs.TableState.{state_of}
-use Rattle.kc_journal_tests.proofs.Stamping.{may_put, next_entry-entered, same_stamp}
-use Rattle.kc_journal_tests.proofs.histories.enter_and_put.Goals as goal
+use Rattle.kc_agree_tests.proofs.Sections.{may_put, next_entry-entered, same_stamp}
+use Rattle.kc_agree_tests.proofs.histories.enter_and_put.Goals as goal
 
 pub put_after-requires-clause-section : goal.put_after-requires-clause-section
 put_after-requires-clause-section g c = λ low.

@@ -1,8 +1,8 @@
 -- The opening words have stamp 0, and a new table has no entries.
 use Rattle.std.proofs.Common.{ap}
 use Rattle.kc_words.specs.declared.shape.Shape.{Shape}
-use Rattle.kc_journal_tests.proofs.Stamping.{new_closed, new_number, no_stamps}
-use Rattle.kc_journal_tests.proofs.histories.open.Goals as goal
+use Rattle.kc_agree_tests.proofs.Sections.{new_closed, new_number, no_stamps}
+use Rattle.kc_agree_tests.proofs.histories.open.Goals as goal
 
 pub open-requires-clause-stamps : goal.open-requires-clause-stamps
 open-requires-clause-stamps c = λ v _. no_stamps v
