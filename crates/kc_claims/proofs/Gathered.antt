@@ -1,29 +1,18 @@
 -- What lines claim that come behind others.
 use Rattle.std.proofs.Common.{◌≡◌, ◌≤◌, ◌<◌, ◌+◌, ◌++◌, ◌∙◌, ℕ, List, [], ◌∷◌, Err, None, Ok, Option, Result, Some}
-use Rattle.std.proofs.Common.{ap, append-nil, append_assoc, arith, below_more, inl, inr, length, length-append, map, refl, subst, sym}
-use Rattle.std.specs.List.{slice_split}
-use Rattle.std.specs.Str.Lines.{strip_carriage_return}
+use Rattle.std.proofs.Common.{ap, append-nil, append_assoc, arith, below_more, length, length-append, refl, subst, sym}
 use Rattle.std.proofs.Math.ListN.{get_or-append}
 use Rattle.std.proofs.Math.Seq.{get_or-append_seam}
-use Rattle.kc_text.specs.Lines.{EndsLine, fields, is_newline, lines}
+use Rattle.kc_text.specs.Lines.{EndsLine, fields, lines}
 use Rattle.kc_text.specs.declared.kind.Kind.{Kind}
 use Rattle.kc_text.specs.declared.refusal.Refusal.{Refusal}
-use Rattle.kc_text.proofs.SaidAppend.{lines-newline}
+use Rattle.kc_text.proofs.SaidAppend.{lines-append}
 use Rattle.kc_claims.specs.Certificates.{claim_at}
 use Rattle.kc_claims.specs.Claims.{behind_claims, claim_in, claims_after, claims_with}
 use Rattle.kc_claims.specs.Gathering.{HasListed, HasTakenLines}
 use Rattle.kc_claims.specs.Tables.{AreBefore, AreTabled}
 use Rattle.kc_claims.specs.declared.claim.Claim.{Claim}
 use Rattle.kc_claims.specs.declared.gathering.Gathering.{Gathering}
-
--- the lines of two texts one after the other, where the first ends with a line
-pub lines-append : (xs ys : List ℕ) → EndsLine xs → lines (xs ++ ys) ≡ lines xs ++ lines ys
-lines-append xs ys (inl none) = ap (λ t. lines (t ++ ys)) none ∙ sym (ap (λ t. lines t ++ lines ys) none)
-lines-append xs ys (inr (front, is)) =
-    let whole : lines (front ++ 10 ∷ []) ≡ map strip_carriage_return (slice_split is_newline front) = lines-newline front []
-    ∙ append-nil (map strip_carriage_return (slice_split is_newline front)) in
-    ap (λ t. lines (t ++ ys)) is ∙ ap lines (append_assoc front (10 ∷ []) ys) ∙ lines-newline front ys
-    ∙ ap (λ (t : List (List ℕ)). t ++ lines ys) (sym whole) ∙ sym (ap (λ t. lines t ++ lines ys) is)
 
 -- claims in front of claims in front of others
 behind-twice : (first second : List Claim) (rest : Result (List Claim) Refusal)
@@ -100,7 +89,8 @@ module _ (old : Gathering) (done : List (List ℕ)) (line : List ℕ) (h : HasLi
         → new.refusal ≡ Some (record { line = old.lines + 1; kind = kind }) → HasTakenLines new (done ++ line ∷ [])
     HasTakenLines-refused kind says told = record {
       refused = λ r is.
-          let same : record { line = old.lines + 1; kind = kind } ≡ r = let e : Some (record { line = old.lines + 1; kind = kind }) ≡ Some r = sym told ∙ is in cc in
+          let some : Some (record { line = old.lines + 1; kind = kind }) ≡ Some r = sym told ∙ is in
+          let same : record { line = old.lines + 1; kind = kind } ≡ r = let e = some in cc in
           taken-line (Err kind) says ∙ ap (λ (x : Refusal). Err x) same;
       listed = λ none. absurd (let e : Some (record { line = old.lines + 1; kind = kind }) ≡ None = sym told ∙ none in cc);
     }

@@ -4,7 +4,7 @@ use Rattle.std.proofs.Common.{append_assoc, append-nil, length-append}
 use Rattle.std.specs.List.{All}
 use Rattle.std.proofs.lemmas.List.Elements.{All-append, All-nil, All-same}
 use Rattle.kc_text.specs.Lines.{EndsLine, is_newline, lines}
-use Rattle.kc_text.proofs.SaidAppend.{ends-append, ends-behind}
+use Rattle.kc_text.proofs.SaidAppend.{ends-append, ends-behind, lines-append}
 use Rattle.kc_dialect.specs.declared.bad_line.BadLine.{BadLine}
 use Rattle.kc_dialect.specs.declared.dialect.Dialect.{Dialect}
 use Rattle.kc_dialect.specs.declared.dialect.BadLines.TheVariants.{Stop}
@@ -15,7 +15,7 @@ use Rattle.kc_dialect.specs.Dialects.{bad_lines, bad_lines_after, plain_lines, p
 use Rattle.kc_dialect.specs.Rewritten.{HasFirstBad, HasRewritten}
 use Rattle.kc_dialect.specs.Skipped.{AreSkipped}
 use Rattle.kc_dialect.specs.Steps.{TookLines, StopsAt}
-use Rattle.kc_dialect.proofs.LineAppend.{bad-append, lines-append, plain-append}
+use Rattle.kc_dialect.proofs.LineAppend.{bad-append, plain-append}
 use Rattle.kc_dialect.proofs.Read.{stops-behind}
 
 -- a rewriter that was fed nothing

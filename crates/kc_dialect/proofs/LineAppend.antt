@@ -1,22 +1,9 @@
--- The lines of bytes that are cut behind a line end.
-use Rattle.std.proofs.Common.{◌≡◌, ◌+◌, ℕ, List, [], ◌∷◌, ◌++◌, length, map, sym, ap, ◌∙◌, arith, inl, inr}
-use Rattle.std.proofs.Common.{append_assoc, append-nil}
-use Rattle.std.specs.List.{slice_split}
-use Rattle.std.specs.Str.Lines.{strip_carriage_return}
-use Rattle.kc_text.specs.Lines.{EndsLine, is_newline, lines}
-use Rattle.kc_text.proofs.SaidAppend.{lines-newline}
+-- Lines one after the other: the plain ones among them, and the bad ones.
+use Rattle.std.proofs.Common.{◌≡◌, ◌+◌, ℕ, List, [], ◌∷◌, ◌++◌, length, sym, ap, ◌∙◌, arith}
+use Rattle.std.proofs.Common.{append_assoc}
 use Rattle.kc_dialect.specs.declared.bad_line.BadLine.{BadLine}
 use Rattle.kc_dialect.specs.declared.dialect.Dialect.{Dialect}
 use Rattle.kc_dialect.specs.Dialects.{bad_line, bad_lines_after, said_after, plain_line, plain_lines}
-
--- the lines of two texts one after the other, where the first ends with a line
-pub lines-append : (xs ys : List ℕ) → EndsLine xs → lines (xs ++ ys) ≡ lines xs ++ lines ys
-lines-append xs ys (inl none) = ap (λ t. lines (t ++ ys)) none ∙ sym (ap (λ t. lines t ++ lines ys) none)
-lines-append xs ys (inr (front, is)) =
-    let whole : lines (front ++ 10 ∷ []) ≡ map strip_carriage_return (slice_split is_newline front) = lines-newline front []
-    ∙ append-nil (map strip_carriage_return (slice_split is_newline front)) in
-    ap (λ t. lines (t ++ ys)) is ∙ ap lines (append_assoc front (10 ∷ []) ys) ∙ lines-newline front ys
-    ∙ ap (λ (t : List (List ℕ)). t ++ lines ys) (sym whole ∙ sym (ap lines is))
 
 -- a place one line on, and so many behind it
 later : (n : ℕ) (line : List ℕ) (rest : List (List ℕ)) → (n + 1) + length rest ≡ n + length (line ∷ rest)

@@ -8,7 +8,7 @@ use Rattle.std.proofs.lemmas.List.{map-append}
 use Rattle.std.proofs.lemmas.List.Folds.{list_any-append}
 use Rattle.std.proofs.lemmas.List.Sums.{fold-append}
 use Rattle.std.specs.Cmp.Lexicographic.{nat_list_eq_equiv}
-use Rattle.kc_dialect.proofs.LineAppend.{lines-append}
+use Rattle.kc_text.proofs.SaidAppend.{lines-append}
 use Rattle.kc_text.specs.Lines.{EndsLine, fields, lines}
 use Rattle.kc_names.specs.Names.{first_two, names_in, number_of, numbered_line, numbered_text, pairs_in, names_with, names_with_pair}
 use Rattle.kc_names.specs.Steps.{lines_behind, names_behind}

@@ -1,31 +1,19 @@
 -- Lines that are read one after another.
-use Rattle.std.proofs.Common.{◌≡◌, ℕ, true, false, cond, List, [], ◌∷◌, ◌++◌, map, refl, sym, ap, ◌∙◌, append-nil, append_assoc, inl, inr, Option, None}
+use Rattle.std.proofs.Common.{◌≡◌, ℕ, true, false, cond, List, [], ◌∷◌, ◌++◌, map, refl, ap, ◌∙◌, Option, None}
 use Rattle.std.specs.Prelude.{is_some}
-use Rattle.std.specs.List.{slice_split}
-use Rattle.std.specs.Str.Lines.{strip_carriage_return}
 use Rattle.std.proofs.lemmas.List.{map-append}
 use Rattle.std.proofs.lemmas.List.Sums.{fold-append}
 use Rattle.kc_text.specs.declared.line.TextLine.{TextLine}
 use Rattle.kc_text.specs.declared.line.TextLine.TheVariants as said
 use Rattle.kc_text.specs.declared.refusal.Refusal.{Refusal}
-use Rattle.kc_text.specs.Lines.{EndsLine, is_newline, lines}
-use Rattle.kc_text.proofs.SaidAppend.{lines-newline}
+use Rattle.kc_text.specs.Lines.{EndsLine, lines}
+use Rattle.kc_text.proofs.SaidAppend.{lines-append}
 use Rattle.kc_stream.specs.Asking.{stream_line, stream_lines}
 use Rattle.kc_stream.specs.Ended.{IsOpen}
 use Rattle.kc_stream.specs.Hearing.{Heard, hear, hear_all, hear_told, heard_so_far, judged, nothing_heard, passed, refused, taken, told_by}
 use Rattle.kc_stream.specs.declared.bad_lines.BadLines.{BadLines}
 use Rattle.kc_stream.specs.declared.stream_line.StreamLine.{StreamLine}
 use Rattle.kc_stream.proofs.Cuts.{ended-parts}
-
--- the lines of bytes that end with a line, and of others behind them
-lines-append : (xs ys : List ℕ) → EndsLine xs → lines (xs ++ ys) ≡ lines xs ++ lines ys
-lines-append xs ys (inl none) = ap (λ (t : List ℕ). lines (t ++ ys)) none ∙ sym (ap (λ (t : List ℕ). lines t ++ lines ys) none)
-lines-append xs ys (inr (front, is)) =
-    let whole : lines (front ++ 10 ∷ []) ≡ map strip_carriage_return (slice_split is_newline front) = lines-newline front []
-    ∙ append-nil (map strip_carriage_return (slice_split is_newline front)) in
-    ap (λ (t : List ℕ). lines (t ++ ys)) is ∙ ap lines (append_assoc front (10 ∷ []) ys)
-    ∙ lines-newline front ys ∙ ap (λ (t : List (List ℕ)). t ++ lines ys) (sym whole)
-    ∙ sym (ap (λ (t : List ℕ). lines t ++ lines ys) is)
 
 -- What two parts of a stream say one after the other, where the first ends with a line.
 pub stream-append : (xs ys : List ℕ) → EndsLine xs → stream_lines (xs ++ ys) ≡ stream_lines xs ++ stream_lines ys

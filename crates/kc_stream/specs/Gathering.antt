@@ -4,7 +4,8 @@ use Rattle.std.specs.List.{filter_map}
 use Rattle.kc_graph.specs.declared.update.Update.{Update}
 use Rattle.kc_text.specs.Inputs.{AreAmong, AreUpdates, numbered}
 use Rattle.kc_text.specs.Meaning.{Told, ends, ends_of}
-use Rattle.kc_stream.specs.Hearing.{Heard, emptied, one_more}
+use Rattle.kc_io.specs.Causes.{one_more}
+use Rattle.kc_stream.specs.Hearing.{Heard, emptied}
 use Rattle.kc_stream.specs.Ids.{ids_of}
 use Rattle.kc_stream.specs.declared.gathered.Gathered.{Gathered}
 

@@ -1,5 +1,6 @@
 -- What the lines of a stream come to, one after another.
-use Rattle.std.specs.Prelude.{◌+◌, ◌-◌, ◌^◌, ℕ, Bool, true, List, [], Option, Some, None, fold, is_some, length, min, nat_lt, not, if◌then◌else◌}
+use Rattle.std.specs.Prelude.{ℕ, Bool, true, List, [], Option, Some, None, fold, is_some, length, nat_lt, not, if◌then◌else◌}
+use Rattle.kc_io.specs.Causes.{one_more}
 use Rattle.kc_words.specs.declared.layout.TheConstants.{VERTICES}
 use Rattle.kc_text.specs.declared.kind.Kind.{Kind}
 use Rattle.kc_text.specs.declared.kind.Kind.TheVariants.{EdgeLineInBatch, TooManyVertices, UpdateOutsideBatch}
@@ -47,10 +48,6 @@ pub record Heard : Type 0 where
 -- nothing was read
 abbrev pub nothing_heard : Heard
 nothing_heard = record { lines = 0; told = nothing_told; refusal = None; dropped = None; refused_batches = 0 }
-
--- one more, counted up to the greatest number of 64 bits
-abbrev pub one_more : ℕ → ℕ
-one_more count = min (count + 1) (2 ^ 64 - 1)
 
 -- what is told without the changes of the batch that is open
 abbrev pub emptied : Told → Told

@@ -1,11 +1,12 @@
 //! What is kept of the lines of a stream: the edges of the start until a batch begins, and then the updates of one batch at a time.
 ghost use Rattle.std.specs.Prelude.{◌≡◌, ◌≢◌, ◌<◌, ◌++◌, ℕ, [], true, All, None, Some, IfOk, OnOk, is_some, max, min, not};
 ghost use Rattle.std.specs.List.{cons_option};
+ghost use Rattle.kc_io.specs.Causes.{one_more};
 ghost use Rattle.kc_text.specs.Inputs.{between};
 ghost use Rattle.kc_text.specs.Meaning.{Told, with_line};
 ghost use Rattle.kc_text.specs.declared.line.TextLine.TheVariants as said;
 ghost use Rattle.kc_stream.specs.Gathering.{Gathers, Holds, IsPairBelow, IsSpoilt, RefusesNext};
-ghost use Rattle.kc_stream.specs.Hearing.{Heard, emptied, ends_reading, hear, nothing_heard, one_more, passed, refuse, refused, told_by};
+ghost use Rattle.kc_stream.specs.Hearing.{Heard, emptied, ends_reading, hear, nothing_heard, passed, refuse, refused, told_by};
 
 use crate::NoMemory;
 use crate::bad_lines::BadLines;

@@ -40,16 +40,19 @@ lines-newline xs ys =
     ∙ map-append strip_carriage_return (slice_split is_newline xs) (without_last (part ∷ parts))
     ∙ ap (λ (t : List (List ℕ)). map strip_carriage_return (slice_split is_newline xs) ++ map strip_carriage_return (without_last t)) (sym e)
 
--- What two texts say one after the other, where the first ends with a line.
-pub said-append : (xs ys : List ℕ) → EndsLine xs → all_said (xs ++ ys) ≡ all_said xs ++ all_said ys
-said-append xs ys (inl none) = ap (λ t. all_said (t ++ ys)) none ∙ sym (ap (λ t. all_said t ++ all_said ys) none)
-said-append xs ys (inr (front, is)) =
+-- the lines of two texts one after the other, where the first ends with a line
+pub lines-append : (xs ys : List ℕ) → EndsLine xs → lines (xs ++ ys) ≡ lines xs ++ lines ys
+lines-append xs ys (inl none) = ap (λ (t : List ℕ). lines (t ++ ys)) none ∙ sym (ap (λ (t : List ℕ). lines t ++ lines ys) none)
+lines-append xs ys (inr (front, is)) =
     let whole : lines (front ++ 10 ∷ []) ≡ map strip_carriage_return (slice_split is_newline front) = lines-newline front []
     ∙ append-nil (map strip_carriage_return (slice_split is_newline front)) in
-    ap (λ t. all_said (t ++ ys)) is ∙ ap all_said (append_assoc front (10 ∷ []) ys)
-    ∙ ap (map said_by) (lines-newline front ys ∙ ap (λ (t : List (List ℕ)). t ++ lines ys) (sym whole))
-    ∙ map-append said_by (lines (front ++ 10 ∷ [])) (lines ys)
-    ∙ sym (ap (λ t. all_said t ++ all_said ys) is)
+    ap (λ (t : List ℕ). lines (t ++ ys)) is ∙ ap lines (append_assoc front (10 ∷ []) ys)
+    ∙ lines-newline front ys ∙ ap (λ (t : List (List ℕ)). t ++ lines ys) (sym whole)
+    ∙ sym (ap (λ (t : List ℕ). lines t ++ lines ys) is)
+
+-- What two texts say one after the other, where the first ends with a line.
+pub said-append : (xs ys : List ℕ) → EndsLine xs → all_said (xs ++ ys) ≡ all_said xs ++ all_said ys
+said-append xs ys ended = ap (map said_by) (lines-append xs ys ended) ∙ map-append said_by (lines xs) (lines ys)
 
 -- bytes that end with a line, and others behind them that do
 pub ends-append : (xs ys : List ℕ) → EndsLine xs → EndsLine ys → EndsLine (xs ++ ys)

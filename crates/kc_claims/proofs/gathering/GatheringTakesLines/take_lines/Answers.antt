@@ -2,7 +2,8 @@
 use Rattle.std.proofs.Common.{ap, subst, sym}
 use Rattle.kc_text.specs.Lines.{lines}
 use Rattle.kc_claims.specs.Gathering.{HasTakenLines}
-use Rattle.kc_claims.proofs.Gathered.{HasTakenLines-stays, lines-append}
+use Rattle.kc_text.proofs.SaidAppend.{lines-append}
+use Rattle.kc_claims.proofs.Gathered.{HasTakenLines-stays}
 use Rattle.kc_claims.proofs.gathering.GatheringTakesLines.take_lines.Goals as goal
 
 pub returns-in-Some : goal.returns-in-Some
