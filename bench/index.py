@@ -5,8 +5,9 @@
     python3 bench/index.py              tells whether the page fits the sources, by its status
 
 A name is that of a function, type, constant or variant of a crate's src/, of a definition or one of its fields in specs/, or of a lemma of
-proofs/*.antt. Names that stand in more than MOST crates, and those of fewer than LEAST letters, are left out: they tell nothing of where
-they stand. Answer files, whose names are the prover's, are left out, too.
+proofs/*.antt. Names that stand as the same in more than MOST crates, and those of fewer than LEAST letters, are left out: they tell nothing of where
+they stand. Answer files, whose names are the prover's, are left out, too. Behind a name stand the other crates whose files bring it in by `use`,
+where these are at most USERS.
 """
 import collections
 import pathlib
@@ -16,8 +17,9 @@ import sys
 TOP = pathlib.Path(__file__).resolve().parent.parent
 CRATES = TOP / "crates"
 PAGE = TOP / "docs" / "INDEX.md"
-MOST = 3
+MOST = 6
 LEAST = 4
+USERS = 10
 
 ITEM = re.compile(r"^\s*(?:pub(?:\([^)]*\))?\s+)?(?:const\s+|unsafe\s+|extern \"C\"\s+)*(?:fn|struct|enum|trait|const|type)\s+(\w+)", re.M)
 VARIANT = re.compile(r"^    ([A-Z]\w+)(?:\s*[,({]|$)", re.M)
@@ -26,11 +28,15 @@ WORD = re.compile(r"^(?:abbrev |opaque |pub |record |data )+([^\s:(]+)", re.M)
 FIELD = re.compile(r"^  (?:pub )?([a-z][\w'-]*)\s*:", re.M)
 LEMMA = re.compile(r"^ *(?:abbrev |private |pub )*([A-Za-z][\w'◌-]*)\s*:(?=\s)", re.M)
 
+BROUGHT = re.compile(r"\buse (?:Rattle\.)?(\w+)((?:(?:\.|::)\w[\w'-]*)*)(?:(?:\.|::)\{([^}]*)\})?")
+
 HEAD = """# Index
 
 Where each name stands: the crate, and the file in its `src/`, `specs/` or `proofs/`. `python3 bench/index.py --write` makes this page from the
-sources. Names that stand in more than {most} crates are left out, and so are those of fewer than {least} letters. `docs/DEFINITIONS.md` says in
+sources. Names that stand as the same in more than {most} crates are left out, and so are those of fewer than {least} letters. `docs/DEFINITIONS.md` says in
 plain English what the definitions mean, and `docs/MAP.md` which promise rests on them.
+
+Behind `used in` stand the other crates that bring the name in, where these are at most {users}.
 
 A letter behind a name tells what it is: `f` a function, type or constant of the code, `d` a definition, `m` a member of a definition that is a
 record, `l` a lemma.
@@ -63,13 +69,24 @@ def listed():
     return found
 
 
+def users():
+    """For each crate and name of it the other crates that bring it in by `use`."""
+    found = collections.defaultdict(set)
+    for crate in sorted(CRATES.iterdir()):
+        for path in [*crate.glob("src/**/*.rt"), *crate.glob("specs/**/*.antt"), *crate.glob("proofs/**/*.antt")]:
+            for below, names, more in BROUGHT.findall(path.read_text(encoding="utf-8")):
+                if below != crate.name and (CRATES / below).is_dir():
+                    brought = more.split(",") if more else re.split(r"\.|::", names)[-1:]
+                    for name in brought:
+                        found[below, re.split(r"\.|::|\s", name.strip())[-1]].add(crate.name)
+    return found
+
+
 def page():
-    found = listed()
-    crates = collections.defaultdict(set)
-    for (name, _), places in found.items():
-        crates[name] |= {crate for crate, _ in places}
-    rows, letter = [HEAD.format(most=MOST, least=LEAST)], ""
-    kept = [key for key in found if len(crates[key[0]]) <= MOST and len(key[0]) >= LEAST and not key[0].startswith(("mod", "◌"))]
+    found, used = listed(), users()
+    crates = {key: {crate for crate, _ in places} for key, places in found.items()}
+    rows, letter = [HEAD.format(most=MOST, least=LEAST, users=USERS)], ""
+    kept = [key for key in found if len(crates[key]) <= MOST and len(key[0]) >= LEAST and not key[0].startswith(("mod", "◌"))]
     for name, kind in sorted(kept, key=lambda key: (key[0].lower(), key)):
         if name[0].upper() != letter:
             letter = name[0].upper()
@@ -78,6 +95,9 @@ def page():
         for crate, file in sorted(found[name, kind]):
             places[crate].append(file)
         told = "; ".join(f"{crate} {', '.join(files)}" for crate, files in places.items())
+        bring = sorted(set().union(*(used[crate, name] for crate in places)) - set(places))
+        if 0 < len(bring) <= USERS:
+            told += f"; used in {', '.join(bring)}"
         rows.append(f"- `{name}` {kind}: {told}\n")
     return "".join(rows)
 
