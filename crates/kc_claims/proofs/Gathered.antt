@@ -1,16 +1,13 @@
 -- What lines claim that come behind others.
-use Rattle.std.proofs.Common.{◌≡◌, ◌≤◌, ◌<◌, ◌+◌, ◌++◌, ◌∙◌, ℕ, List, [], ◌∷◌, Err, None, Ok, Option, Result, Some}
-use Rattle.std.proofs.Common.{ap, append-nil, append_assoc, arith, below_more, length, length-append, refl, subst, sym}
-use Rattle.std.proofs.Math.ListN.{get_or-append}
-use Rattle.std.proofs.Math.Seq.{get_or-append_seam}
+use Rattle.std.proofs.Common.{◌≡◌, ◌+◌, ◌++◌, ◌∙◌, ℕ, List, [], ◌∷◌, Err, None, Ok, Option, Result, Some}
+use Rattle.std.proofs.Common.{ap, append-nil, append_assoc, arith, length, length-append, refl, subst, sym}
 use Rattle.kc_text.specs.Lines.{EndsLine, fields, lines}
 use Rattle.kc_text.specs.declared.kind.Kind.{Kind}
 use Rattle.kc_text.specs.declared.refusal.Refusal.{Refusal}
 use Rattle.kc_text.proofs.SaidAppend.{lines-append}
-use Rattle.kc_claims.specs.Certificates.{claim_at}
 use Rattle.kc_claims.specs.Claims.{behind_claims, claim_in, claims_after, claims_with}
 use Rattle.kc_claims.specs.Gathering.{HasListed, HasTakenLines}
-use Rattle.kc_claims.specs.Tables.{AreBefore, AreTabled}
+use Rattle.kc_claims.specs.Tables.{AreTabled}
 use Rattle.kc_claims.specs.declared.claim.Claim.{Claim}
 use Rattle.kc_claims.specs.declared.gathering.Gathering.{Gathering}
 
@@ -105,26 +102,19 @@ module _ (old : Gathering) (done : List (List ℕ)) (line : List ℕ) (h : HasLi
         means = taken-line (Ok None) says ∙ ap (λ (c : List Claim). Ok c) (append-nil h.claims);
         tabled = tabled;
         counted = omega (arith, count, h.counted, one-more);
-        within = λ i l. omega (arith, h.within i l, one-more);
       };
     }
 
     -- a line that claims something
-    pub HasTakenLines-claim : (claim : Claim) → Ok (Some claim) ≡ claim_in (old.lines + 1) (fields line) → claim.line ≡ old.lines + 1 → new.refusal ≡ None
-        → ((claims : List Claim) → AreTabled claims old.table → AreBefore claims claim.line → AreTabled (claims ++ claim ∷ []) new.table)
-        → HasTakenLines new (done ++ line ∷ [])
-    HasTakenLines-claim claim says at_line none put = record {
+    pub HasTakenLines-claim : (claim : Claim) → Ok (Some claim) ≡ claim_in (old.lines + 1) (fields line) → new.refusal ≡ None
+        → ((claims : List Claim) → AreTabled claims old.table → AreTabled (claims ++ claim ∷ []) new.table) → HasTakenLines new (done ++ line ∷ [])
+    HasTakenLines-claim claim says none put = record {
       refused = λ r is. absurd (let e : None ≡ Some r = sym none ∙ is in cc);
       listed = λ _. record {
         claims = h.claims ++ claim ∷ [];
         means = taken-line (Ok (Some claim)) says;
-        tabled = put h.claims h.tabled (λ i l. omega (arith, h.within i l, h.counted, at_line));
+        tabled = put h.claims h.tabled;
         counted = omega (arith, count, h.counted, one-more);
-        within = λ i l.
-            below_more (λ i. (claim_at (h.claims ++ claim ∷ []) i).line ≤ length (done ++ line ∷ [])) (length h.claims)
-            (λ i k. omega (arith, h.within i k, one-more, ap (λ (c : Claim). c.line) (get_or-append h.claims (claim ∷ []) (claim_at [] 0) i k)))
-            (omega (arith, at_line, h.counted, one-more, ap (λ (c : Claim). c.line) (get_or-append_seam h.claims claim [] (claim_at [] 0))))
-            i (omega (arith, l, length-append h.claims (claim ∷ [])));
       };
     }
 

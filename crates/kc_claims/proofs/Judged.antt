@@ -1,69 +1,19 @@
 -- Which claim stands first of those that the counts show to be wrong.
-use Rattle.std.proofs.Common.{◌≡◌, ◌≢◌, ◌≤◌, ◌<◌, ◌+◌, ◌∙◌, ◌⊎◌, ◌||◌, ◌&&◌, ℕ, Bool, List, None, Option, Some, IfSome, true, false, true≢false}
-use Rattle.std.proofs.Common.{ap, arith, below_more, inl, inr, length, refl, subst, sym}
-use Rattle.std.specs.Prelude.{nat_eq, nat_lt}
-use Rattle.std.proofs.lemmas.Bool.{cases_order}
+use Rattle.std.proofs.Common.{◌≡◌, ◌≤◌, ◌<◌, ◌∙◌, ◌⊎◌, ℕ, Bool, List, None, Some, true, false}
+use Rattle.std.proofs.Common.{ap, arith, length, refl, subst, sym}
 use Rattle.std.proofs.lemmas.List.{get_or_default}
 use Rattle.kc_graph.specs.Peeling.{at}
 use Rattle.kc_graph.proofs.Places.{length-enumerates}
-use Rattle.kc_claims.specs.Certificates.{TellEach, claim_at}
-use Rattle.kc_claims.specs.Insisting.{HasCount, HasInsistedFor, IsCountFault, IsFirstUncounted}
-use Rattle.kc_claims.specs.Judging.{AreCounted, HasLookedFor, IsFirstWrong, TellLines, is_wrong, is_wrong_at, is_earlier, vertex_claim}
+use Rattle.kc_claims.specs.Certificates.{claim_at}
+use Rattle.kc_claims.specs.Insisting.{HasCount, IsFirstUncounted}
+use Rattle.kc_claims.specs.Judging.{AreCounted, HasEach, HasPlaces, IsFirstWrong, is_wrong, is_wrong_at, claim_place}
 use Rattle.kc_claims.specs.Sweeping.{Agrees, IsFirstMiscount, IsMiscountOf}
-use Rattle.kc_claims.specs.Tables.{claim_of, told_rank}
-use Rattle.kc_claims.specs.Taking.{is_marked}
 use Rattle.kc_claims.specs.declared.claim.Claim.{Claim}
 use Rattle.kc_claims.specs.declared.claimed.ClaimLines.{ClaimLines}
 use Rattle.kc_claims.specs.declared.fault.ClaimFault.{ClaimFault}
-use Rattle.kc_claims.specs.declared.fault.ClaimFault.TheVariants.{Unknown}
 use Rattle.kc_claims.specs.declared.judging.Wrong.{Wrong}
 use Rattle.kc_claims.specs.declared.judging.Wrong.TheVariants.{Miscounted, Uncounted}
 use Rattle.kc_claims.specs.declared.sweep.Sweep.{Sweep}
-
-module _ (wrong : Wrong) (sweep : Sweep) (lines : List ℕ) (n : ℕ) where
-  -- the next vertex is not wrong
-  pub IsFirstWrong-other : (found : Option ℕ) → is_wrong_at wrong sweep n ≡ false → IsFirstWrong wrong sweep lines n found
-      → IsFirstWrong wrong sweep lines (n + 1) found
-  IsFirstWrong-other None right h = below_more (λ u. is_wrong_at wrong sweep u ≡ false) n h right
-  IsFirstWrong-other (Some v) right (l, is, first) = (
-    omega (arith, l),
-    is,
-    below_more (λ u. is_wrong_at wrong sweep u ≡ true → at lines v ≤ at lines u) n first (λ e. absurd (true≢false (sym e ∙ right))),
-  )
-
-  -- the next vertex is wrong, and stands behind the first
-  pub IsFirstWrong-behind : (found : Option ℕ) → is_earlier lines n found ≡ false → IsFirstWrong wrong sweep lines n found
-      → IsFirstWrong wrong sweep lines (n + 1) found
-  IsFirstWrong-behind None behind h = absurd (true≢false behind)
-  IsFirstWrong-behind (Some v) behind (l, is, first) = (
-    omega (arith, l),
-    is,
-    below_more (λ u. is_wrong_at wrong sweep u ≡ true → at lines v ≤ at lines u) n first (λ _. grind (arith, behind)),
-  )
-
-  -- the next vertex is wrong, and stands before all others that are
-  pub IsFirstWrong-before : (found : Option ℕ) → is_wrong_at wrong sweep n ≡ true → is_earlier lines n found ≡ true
-      → IsFirstWrong wrong sweep lines n found → IsFirstWrong wrong sweep lines (n + 1) (Some n)
-  IsFirstWrong-before None here before h = (
-    omega arith,
-    here,
-    below_more (λ u. is_wrong_at wrong sweep u ≡ true → at lines n ≤ at lines u) n (λ u l e. absurd (true≢false (sym e ∙ h u l))) (λ _. omega arith),
-  )
-  IsFirstWrong-before (Some v) here before (l, is, first) = (
-    omega arith,
-    here,
-    below_more (λ u. is_wrong_at wrong sweep u ≡ true → at lines n ≤ at lines u) n
-        (λ u k e. let less : at lines n < at lines v = grind (arith, before) in omega (arith, first u k e, less)) (λ _. omega arith),
-  )
-
--- a claim by its fields
-claim-is : (c : Claim) (line id number : ℕ) (rank : Option ℕ) → line ≡ c.line → id ≡ c.id → number ≡ c.number → rank ≡ c.rank
-    → ◌≡◌ {A = Claim} (record { line = line; id = id; number = number; rank = rank }) c
-claim-is c line id number rank l i n r =
-    ap (λ x. record { line = x; id = id; number = number; rank = rank }) l
-    ∙ ap (λ x. record { line = c.line; id = x; number = number; rank = rank }) i
-    ∙ ap (λ x. record { line = c.line; id = c.id; number = x; rank = rank }) n
-    ∙ ap (λ (x : Option ℕ). record { line = c.line; id = c.id; number = c.number; rank = x }) r
 
 -- what is not wrong lies between
 between : (core later supporters : ℕ) → is_wrong Miscounted core later supporters ≡ false → (later ≤ core) × (core ≤ supporters)
@@ -82,25 +32,47 @@ one-counted : (core later supporters : ℕ) → is_wrong Uncounted core later su
 one-counted core later supporters right = grind arith
 
 module _ (claims : List Claim) (order : List ℕ) (sweep : Sweep) (lines : ClaimLines) (h : AreCounted claims order sweep lines) where
-  -- there are as many ids as claims
-  pub one-id : length sweep.ids.items ≡ length claims
+  -- there are as many ids as claims, and as many numbers
+  one-id : length sweep.ids.items ≡ length claims
   one-id = omega (arith, length-enumerates (length sweep.ids.items) order h.told.enumerates, h.told.all.one_each)
 
+  one-number : length sweep.core.items ≡ length claims
+  one-number = omega (arith, one-id, h.told.one_number)
+
+  -- each vertex has a rank, a place and counts
+  pub has-each : HasEach sweep lines.places
+  has-each = record {
+    few = omega (arith, one-number, h.stand.stretched.few);
+    ranks = omega (arith, h.told.one_number, h.told.one_rank);
+    placed = subst (HasPlaces lines.places) (h.told.all.one_each ∙ sym one-number) h.stand.places.each;
+    later = h.later_each;
+    supporters = h.supporters_each;
+  }
+
   -- a vertex stands at a place
-  place-of : (v : ℕ) → v < length lines.lines.items → (i : ℕ) × (i < length claims) × (at order i ≡ v)
+  place-of : (v : ℕ) → v < length sweep.core.items → (i : ℕ) × (i < length claims) × (at order i ≡ v)
   place-of v l =
-      let (i, k, is) = h.told.enumerates.complete v (omega (arith, l, h.stand.lines_each, one-id)) in
+      let (i, k, is) = h.told.enumerates.complete v (omega (arith, l, h.told.one_number)) in
       (i, omega (arith, k, h.told.all.one_each), get_or_default order i 0 v k ∙ is)
 
-  -- the claim of the vertex at a place
-  claim-at : (i : ℕ) → i < length claims → vertex_claim sweep lines (at order i) ≡ claim_at claims i
-  claim-at i l =
-      claim-is (claim_at claims i) (at lines.lines.items (at order i)) (at sweep.ids.items (at order i)) (at sweep.core.items (at order i))
-      (told_rank (is_marked lines.ranked.items (at order i)) (at sweep.rank.items (at order i))) (h.stand.line i l) (h.told.all.named i l)
-      (h.told.all.numbers i l) (h.stand.is_told i l)
+  -- the place at which the claim of a vertex is looked for is its own
+  place-is : (i : ℕ) → i < length claims → claim_place lines.places sweep.rank.items (at order i) ≡ i
+  place-is i l = h.stand.places.place i (omega (arith, l, h.told.all.one_each))
 
-  vertex-at : (i : ℕ) → i < length claims → at order i < length lines.lines.items
-  vertex-at i l = omega (arith, h.told.all.vertices i l, one-id, h.stand.lines_each)
+  vertex-at : (i : ℕ) → i < length claims → at order i < length sweep.core.items
+  vertex-at i l = omega (arith, h.told.all.vertices i l, h.told.one_number)
+
+  -- what a vertex is told is what the claim at its place tells
+  pub vertex-place : (v : ℕ) → v < length sweep.core.items → (place : ℕ) → place ≡ claim_place lines.places sweep.rank.items v
+      → (place < length claims) × (at order place ≡ v)
+  vertex-place v l place here =
+      let (i, k, is) = place-of v l in
+      let same : place ≡ i = here ∙ sym (ap (claim_place lines.places sweep.rank.items) is) ∙ place-is i k in
+      (omega (arith, same, k), ap (at order) same ∙ is)
+
+  -- no two claims are of one vertex
+  pub one-claim : (i j : ℕ) → i < length claims → j < length claims → at order i ≡ at order j → i ≡ j
+  one-claim i j l k same = sym (place-is i l) ∙ ap (claim_place lines.places sweep.rank.items) same ∙ place-is j k
 
   -- a claim whose vertex is not wrong
   agree : (i : ℕ) → i < length claims → is_wrong_at Miscounted sweep (at order i) ≡ false
@@ -110,18 +82,18 @@ module _ (claims : List Claim) (order : List ℕ) (sweep : Sweep) (lines : Claim
       (omega (arith, few, h.told.all.numbers i l), omega (arith, enough, h.told.all.numbers i l))
 
   -- where no vertex is wrong all claims agree
-  pub agree-all : IsFirstWrong Miscounted sweep lines.lines.items (length lines.lines.items) None → (i : ℕ) → i < length claims
+  pub agree-all : IsFirstWrong Miscounted sweep lines.places (length sweep.core.items) None → (i : ℕ) → i < length claims
       → Agrees claims order sweep.later.items sweep.supporters.items i
   agree-all right i l = agree i l (right (at order i) (vertex-at i l))
 
   -- and where something is counted of each vertex, it is so of those of all claims
-  pub counted-all : IsFirstWrong Uncounted sweep lines.lines.items (length lines.lines.items) None → (i : ℕ) → i < length claims
+  pub counted-all : IsFirstWrong Uncounted sweep lines.places (length sweep.core.items) None → (i : ℕ) → i < length claims
       → HasCount sweep.later.items sweep.supporters.items (at order i)
   counted-all right i l =
       one-counted (at sweep.core.items (at order i)) (at sweep.later.items (at order i)) (at sweep.supporters.items (at order i))
       (right (at order i) (vertex-at i l))
 
-  module _ (wrong : Wrong) (v : ℕ) (first : IsFirstWrong wrong sweep lines.lines.items (length lines.lines.items) (Some v)) where
+  module _ (wrong : Wrong) (v : ℕ) (first : IsFirstWrong wrong sweep lines.places (length sweep.core.items) (Some v)) where
     -- the claims before the first that is wrong are not
     right-before : (place : ℕ) → place < length claims → at order place ≡ v → (i : ℕ) → i < place → is_wrong_at wrong sweep (at order i) ≡ false
     right-before place within is i l = go (is_wrong_at wrong sweep (at order i)) refl
@@ -130,44 +102,51 @@ module _ (claims : List Claim) (order : List ℕ) (sweep : Sweep) (lines : Claim
         go false e = e
         go true e =
             absurd (let k : i < length claims = omega (arith, l, within) in
-            let later : at lines.lines.items v ≤ at lines.lines.items (at order i) = first.2 (at order i) (vertex-at i k) e in
-            omega (arith, later, h.stand.line i k, h.stand.line place within, ap (at lines.lines.items) is, h.stand.rise i place l within))
+            let later : claim_place lines.places sweep.rank.items v ≤ claim_place lines.places sweep.rank.items (at order i) =
+            first.2 (at order i) (vertex-at i k) e in
+            omega (arith, later, place-is i k, place-is place within, ap (claim_place lines.places sweep.rank.items) is))
 
-  -- the claim of the first vertex that is miscounted is the first that does not agree
-  pub first-miscount : (v : ℕ) → IsFirstWrong Miscounted sweep lines.lines.items (length lines.lines.items) (Some v) → (fault : ClaimFault)
-      → IsMiscountOf (vertex_claim sweep lines v) (at sweep.later.items v) (at sweep.supporters.items v) fault
-      → IsFirstMiscount claims order sweep.later.items sweep.supporters.items fault
-  first-miscount v first fault here =
-      let (place, within, is) = place-of v first.0 in
-      record {
-        place = place;
-        within = within;
-        here =
-            subst (λ (c : Claim). IsMiscountOf c (at sweep.later.items (at order place)) (at sweep.supporters.items (at order place)) fault)
-            (claim-at place within)
-            (subst (λ u. IsMiscountOf (vertex_claim sweep lines u) (at sweep.later.items u) (at sweep.supporters.items u) fault) (sym is) here);
-        before = λ i l. agree i (omega (arith, l, within)) (right-before Miscounted v first place within is i l);
-      }
+  -- a claim of a vertex
+  module _ (v : ℕ) (claim : Claim) (told : (i : ℕ) → i < length claims → at order i ≡ v → claim ≡ claim_at claims i) where
+    -- the claim of the first vertex that is miscounted is the first that does not agree
+    pub first-miscount : IsFirstWrong Miscounted sweep lines.places (length sweep.core.items) (Some v) → (fault : ClaimFault)
+        → IsMiscountOf claim (at sweep.later.items v) (at sweep.supporters.items v) fault
+        → IsFirstMiscount claims order sweep.later.items sweep.supporters.items fault
+    first-miscount first fault here =
+        let (place, within, is) = place-of v first.0 in
+        record {
+          place = place;
+          within = within;
+          here =
+              subst (λ (c : Claim). IsMiscountOf c (at sweep.later.items (at order place)) (at sweep.supporters.items (at order place)) fault)
+              (told place within is)
+              (subst (λ u. IsMiscountOf claim (at sweep.later.items u) (at sweep.supporters.items u) fault) (sym is) here);
+          before = λ i l. agree i (omega (arith, l, within)) (right-before Miscounted v first place within is i l);
+        }
 
-  -- the claim of the first vertex of which nothing is counted is the first such one
-  pub first-uncounted : (v : ℕ) → IsFirstWrong Uncounted sweep lines.lines.items (length lines.lines.items) (Some v)
-      → IsFirstUncounted claims order sweep.later.items sweep.supporters.items (vertex_claim sweep lines v)
-  first-uncounted v first =
-      let (place, within, is) = place-of v first.0 in
-      let (later, supported) = none-counted (at sweep.core.items v) (at sweep.later.items v) (at sweep.supporters.items v) first.1 in
-      record {
-        place = place;
-        within = within;
-        is = ap (vertex_claim sweep lines) (sym is) ∙ claim-at place within;
-        no_later = ap (at sweep.later.items) is ∙ later;
-        no_supporter = ap (at sweep.supporters.items) is ∙ supported;
-        before = λ i l.
-            one-counted (at sweep.core.items (at order i)) (at sweep.later.items (at order i)) (at sweep.supporters.items (at order i))
-            (right-before Uncounted v first place within is i l);
-      }
+    -- the claim of the first vertex of which nothing is counted is the first such one
+    pub first-uncounted : IsFirstWrong Uncounted sweep lines.places (length sweep.core.items) (Some v)
+        → IsFirstUncounted claims order sweep.later.items sweep.supporters.items claim
+    first-uncounted first =
+        let (place, within, is) = place-of v first.0 in
+        let (later, supported) = none-counted (at sweep.core.items v) (at sweep.later.items v) (at sweep.supporters.items v) first.1 in
+        record {
+          place = place;
+          within = within;
+          is = told place within is;
+          no_later = ap (at sweep.later.items) is ∙ later;
+          no_supporter = ap (at sweep.supporters.items) is ∙ supported;
+          before = λ i l.
+              one-counted (at sweep.core.items (at order i)) (at sweep.later.items (at order i)) (at sweep.supporters.items (at order i))
+              (right-before Uncounted v first place within is i l);
+        }
 
-  -- what does not lie between its counts is no claim that does
-  pub miscounted-not : (v : ℕ) → IsFirstWrong Miscounted sweep lines.lines.items (length lines.lines.items) (Some v)
-      → at sweep.later.items v ≤ at sweep.core.items v → at sweep.core.items v ≤ at sweep.supporters.items v → ⊥
-  miscounted-not v first few enough =
-      not-between (at sweep.core.items v) (at sweep.later.items v) (at sweep.supporters.items v) first.1 few enough
+    -- where it is miscounted its number does not lie between the counts
+    pub miscounted-not : IsFirstWrong Miscounted sweep lines.places (length sweep.core.items) (Some v) → (later supporting : ℕ)
+        → later ≡ at sweep.later.items v → supporting ≡ at sweep.supporters.items v → (later ≤ claim.number) × (claim.number ≤ supporting) → ⊥
+    miscounted-not first later supporting few enough (low, high) =
+        let (place, within, is) = place-of v first.0 in
+        let number : claim.number ≡ at sweep.core.items v =
+        ap (λ (c : Claim). c.number) (told place within is) ∙ sym (h.told.all.numbers place within) ∙ ap (at sweep.core.items) is in
+        not-between (at sweep.core.items v) (at sweep.later.items v) (at sweep.supporters.items v) first.1 (omega (arith, low, few, number))
+        (omega (arith, high, enough, number))

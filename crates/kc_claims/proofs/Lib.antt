@@ -15,3 +15,4 @@ pub mod Gathered
 pub mod Placed
 pub mod Judged
 pub mod Seconds
+pub mod Stretched

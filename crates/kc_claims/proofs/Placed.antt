@@ -1,5 +1,6 @@
 -- Vertices that are put in the place of their ids.
-use Rattle.std.proofs.Common.{◌≡◌, ◌≢◌, ◌≤◌, ◌<◌, ◌+◌, ◌∙◌, ℕ, Bool, List, true, false, true≢false, ap, arith, below_more, inl, inr, length, length-set, slice_set, sym}
+use Rattle.std.proofs.Common.{◌≡◌, ◌≢◌, ◌<◌, ◌+◌, ◌∙◌, ℕ, Bool, List, true, false, true≢false}
+use Rattle.std.proofs.Common.{ap, arith, below_more, inl, inr, length, length-set, slice_set, sym}
 use Rattle.std.specs.List.Sorted.{IsStrictlyIncreasing}
 use Rattle.std.proofs.lemmas.Bool.{cases_eq}
 use Rattle.std.proofs.lemmas.List.{get_or-set_other, get_or-set_same, get_or_default}
@@ -81,7 +82,8 @@ module _ (ids column : List ℕ) (n : ℕ) (now : List ℕ) (named : List Bool) 
       (h.named_so i (omega arith) ∙ same ∙ sym (h.named_so j k)))
 
   -- the next id is of a vertex that is marked
-  pub IsSecond-next : IsStrictlyIncreasing ids → (v : ℕ) → v < length ids → at ids v ≡ at column n → n < length column → is_marked named v ≡ true → IsSecond column n
+  pub IsSecond-next : IsStrictlyIncreasing ids → (v : ℕ) → v < length ids → at ids v ≡ at column n → n < length column → is_marked named v ≡ true
+      → IsSecond column n
   IsSecond-next up v l here within mark =
       let (i, k, is) = h.only v l mark in
       record {

@@ -1,8 +1,7 @@
 -- What is kept while claims are gathered from a text that comes in pieces.
-use Rattle.std.specs.Prelude.{◌≡◌, ◌≤◌, ◌<◌, ℕ, List, None, Ok, Err, Some, length}
+use Rattle.std.specs.Prelude.{◌≡◌, ℕ, List, None, Ok, Err, Some, length}
 use Rattle.kc_text.specs.Lines.{lines}
 use Rattle.kc_text.specs.declared.refusal.Refusal.{Refusal}
-use Rattle.kc_claims.specs.Certificates.{claim_at}
 use Rattle.kc_claims.specs.Claims.{claims_after}
 use Rattle.kc_claims.specs.Tables.{AreTabled}
 use Rattle.kc_claims.specs.declared.claim.Claim.{Claim}
@@ -14,7 +13,6 @@ pub record HasListed (now : Gathering) (done : List (List ℕ)) : Type 0 where
   pub means : claims_after 0 done ≡ Ok claims
   pub tabled : AreTabled claims now.table
   pub counted : now.lines ≡ length done
-  pub within : (i : ℕ) → i < length claims → (claim_at claims i).line ≤ length done
 
 -- these lines were taken: the first that is refused is kept, and where none is, their claims are
 pub record HasTakenLines (now : Gathering) (done : List (List ℕ)) : Type 0 where

@@ -3,6 +3,7 @@ pub mod Certificates
 pub mod Claims
 pub mod LineFaults
 pub mod Streams
+pub mod Stretches
 pub mod Tables
 -- What the crate's own functions speak of.
 pub mod Checking
@@ -12,5 +13,6 @@ pub mod Insisting
 pub mod Judging
 pub mod Places
 pub mod Placing
+pub mod Stretching
 pub mod Sweeping
 pub mod Taking

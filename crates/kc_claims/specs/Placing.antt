@@ -31,3 +31,7 @@ pub record IsSecond (column : List ℕ) (place : ℕ) : Type 0 where
   pub stands_before : earlier < place
   pub same : at column earlier ≡ at column place
   pub apart : (i j : ℕ) → i < j → j < place → at column i ≢ at column j
+
+-- each entry of a column is its own place
+abbrev pub AreOwnPlaces : List ℕ → Type 0
+AreOwnPlaces column = (i : ℕ) → i < length column → at column i ≡ i

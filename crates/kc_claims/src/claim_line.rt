@@ -1,5 +1,5 @@
 //! What one line of a certificate claims.
-ghost use Rattle.std.specs.Prelude.{◌≡◌, IfOk, IfSome};
+ghost use Rattle.std.specs.Prelude.{◌≡◌};
 ghost use Rattle.kc_text.specs.Forms.{is_comment};
 ghost use Rattle.kc_text.specs.Lines.{fields};
 ghost use Rattle.kc_claims.specs.Claims.{claim_form, claim_in, with_rank};
@@ -18,8 +18,7 @@ fn is_comment(field: &[u8]) -> bool
 
 /// The claim of an id and a number, with the rank that stands behind them if there is one.
 fn with_rank(line: u64, id: u32, told: u32, rest: &[u8]) -> Result<Claim, Kind>
-    ensures claim { result ≡ with_rank line id told (fields rest.now) }
-    ensures line { IfOk result (λ claim. claim.line ≡ line) }
+    ensures { result ≡ with_rank line id told (fields rest.now) }
 {
     let Some((third, rest)) = cut_field(rest) else {
         return Ok(Claim {
@@ -43,8 +42,7 @@ fn with_rank(line: u64, id: u32, told: u32, rest: &[u8]) -> Result<Claim, Kind>
 
 /// The claim that is all of the text's fields.
 fn claim_form(line: u64, text: &[u8]) -> Result<Claim, Kind>
-    ensures claim { result ≡ claim_form line (fields text.now) }
-    ensures line { IfOk result (λ claim. claim.line ≡ line) }
+    ensures { result ≡ claim_form line (fields text.now) }
 {
     let Some((first, rest)) = cut_field(text) else {
         return Err(Kind::MissingField);
@@ -59,8 +57,7 @@ fn claim_form(line: u64, text: &[u8]) -> Result<Claim, Kind>
 
 /// What a line claims. A line that is blank or a comment claims nothing.
 pub(crate) fn claim_in(line: u64, text: &[u8]) -> Result<Option<Claim>, Kind>
-    ensures claim { result ≡ claim_in line (fields text.now) }
-    ensures line { IfOk result (λ found. IfSome found (λ claim. claim.line ≡ line)) }
+    ensures { result ≡ claim_in line (fields text.now) }
 {
     let Some((first, _)) = cut_field(text) else {
         return Ok(None);

@@ -1,29 +1,41 @@
 //! What claims tell the vertices of their ids, for a sweep over a stream.
-ghost use Rattle.std.specs.Prelude.{◌≤◌, ℕ, IfOk, IsErrOf, List, length};
+ghost use Rattle.std.specs.Prelude.{◌≡◌, ◌≢◌, ◌≤◌, ◌<◌, ◌^◌, ℕ, IfOk, IsErrOf, List, length};
 ghost use Rattle.std.specs.List.Sorted.{IsStrictlyIncreasing};
+ghost use Rattle.kc_graph.specs.Peeling.{at};
 ghost use Rattle.kc_graph.specs.SimpleGraph.{SimpleGraph};
 ghost use Rattle.kc_text.specs.declared.limits.TheConstants.Limits.{GRAPH};
 ghost use Rattle.kc_claims.specs.Certificates.{IsFirstFault};
-ghost use Rattle.kc_claims.specs.Judging.{AreClaimed, AreSpread, IsSpread};
+ghost use Rattle.kc_claims.specs.Judging.{AreClaimed, AreMoved, AreSpread, IsSpread, TellPlaces};
 ghost use Rattle.kc_claims.specs.Tables.{AreTabled};
 ghost use Rattle.kc_claims.specs.declared.claim.Claim.{Claim};
 ghost use Rattle.kc_claims.specs.declared.fault.ClaimFault.{ClaimFault};
 
 use crate::fault::{CheckFault, ClaimFault};
-use crate::placing::{Unplaced, by_vertices, place_each};
+use crate::placing::{Unplaced, are_own_places, by_vertices, place_each, places_of};
+use crate::stretch::Stretch;
 use crate::sweep::Sweep;
-use crate::table::{ClaimTable, claim_of};
+use crate::table::ClaimTable;
 use kc_graph::NoMemory;
 use kc_text::Limits;
 use std::alloc::Global;
 
+/// The places of the claims of vertices.
+#[derive(Drop)]
+pub(crate) enum ClaimPlaces {
+    /// Each vertex is itself the place of its claim: the claims come in the order of their ids.
+    AsIds,
+    /// The rank of each vertex is the place of its claim, as where no claim tells a rank.
+    AsRanks,
+    /// The place of each vertex's claim.
+    Column(Vec<u32>),
+}
+
 /// Where the claims of vertices stand, and whether they tell ranks.
 #[derive(Drop)]
 pub(crate) struct ClaimLines {
-    /// The line of each vertex.
-    pub(crate) lines: Vec<u32>,
-    /// Whether the claim of each vertex tells its rank.
-    pub(crate) ranked: Vec<bool>,
+    pub(crate) places: ClaimPlaces,
+    /// The lines of claims by their places.
+    pub(crate) stretches: Vec<Stretch>,
 }
 
 /// What claims tell vertices.
@@ -51,6 +63,20 @@ pub(crate) fn ascending(ids: Vec<u32>) -> Vec<u32>
     ids
 }
 
+/// The places of claims whose vertices come in this order, with these ranks. It takes 4 bytes a claim where some claim's rank is not its place.
+fn claim_places(alloc: Global, order: &[u32], ranks: &[u32]) -> Result<ClaimPlaces, NoMemory>
+    requires few { length order.now ≤ 2 ^ 32 }
+    requires one_each { length ranks.now ≡ length order.now }
+    requires vertices { (i : ℕ) → i < length order.now → at order.now i < length order.now }
+    requires apart { (i j : ℕ) → i < j → j < length order.now → at order.now i ≢ at order.now j }
+    ensures { IfOk result (λ places. (rank : List ℕ) → AreMoved order.now ranks.now rank → TellPlaces order.now rank places) }
+{
+    if are_own_places(ranks) {
+        return Ok(ClaimPlaces::AsRanks);
+    }
+    Ok(ClaimPlaces::Column(places_of(alloc, order)?))
+}
+
 /// What claims tell vertices, where the column of their ids has these. The columns end here, one after another.
 fn spread_out(alloc: Global, table: ClaimTable) -> Result<Spread, NoMemory>
     requires { (ids : List ℕ) × (claims : List Claim) × AreSpread ids claims table }
@@ -58,20 +84,20 @@ fn spread_out(alloc: Global, table: ClaimTable) -> Result<Spread, NoMemory>
 {
     let ClaimTable {
         ids: order,
-        numbers,
-        ranks,
-        ranked,
-        lines,
+        numbers: core,
+        ranks: rank,
+        stretches,
     } = table;
-    let core = by_vertices(alloc, &order, numbers)?;
-    let rank = by_vertices(alloc, &order, ranks)?;
-    let ranked = by_vertices(alloc, &order, ranked)?;
-    let lines = by_vertices(alloc, &order, lines)?;
-    Ok(Spread {
-        core,
-        rank,
-        lines: ClaimLines { lines, ranked },
-    })
+    if are_own_places(&order) {
+        let places = ClaimPlaces::AsIds;
+        let lines = ClaimLines { places, stretches };
+        return Ok(Spread { core, rank, lines });
+    }
+    let core = by_vertices(alloc, &order, core)?;
+    let places = claim_places(alloc, &order, &rank)?;
+    let rank = by_vertices(alloc, &order, rank)?;
+    let lines = ClaimLines { places, stretches };
+    Ok(Spread { core, rank, lines })
 }
 
 /// Begins a sweep for what claims tell vertices, where the column of their ids has these.
@@ -87,7 +113,7 @@ fn begun(alloc: Global, ids: Vec<u32>, table: ClaimTable) -> Result<Claimed, NoM
 }
 
 /// Begins a sweep for what claims tell the vertices of their ids. They are at fault where they name an id twice. It takes 8 bytes a claim for a
-/// while, and then 8 for the counts.
+/// while, and then 8 for the counts. It takes 4 more where a column of places is kept.
 pub(crate) fn begin_table(alloc: Global, table: ClaimTable) -> Result<Claimed, CheckFault>
     requires { (claims : List Claim) × AreTabled claims table }
     ensures claimed { IfOk result (λ claimed. (claims : List Claim) → AreTabled claims table → (order : List ℕ) × AreClaimed claims order claimed) }

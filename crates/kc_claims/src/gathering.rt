@@ -95,8 +95,8 @@ impl TakesLines for Gathering {
     }
 }
 
-/// The claims that a source has left, in columns. Its text is never held: it takes 17 bytes a claim, some 8 more while the columns grow, and a
-/// buffer.
+/// The claims that a source has left, in columns. Its text is never held: it takes 12 bytes a claim, some 8 more while the columns grow, and a
+/// buffer. It takes 12 bytes more for each stretch of claims whose lines follow one another, and that all tell a rank or do not.
 ///
 /// `Refused` comes exactly where a line is neither blank nor a comment and has not two numbers, or three. It tells the first such line, and the
 /// first thing that is wrong with it from the left. `ReadFault` comes where the source fails. `NoMemory` comes where there is none for the claims,

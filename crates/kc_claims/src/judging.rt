@@ -1,17 +1,18 @@
 //! Tells what is wrong with claims by the counts of their vertices.
 ghost use Rattle.std.specs.Prelude.{◌≡◌, ◌<◌, ℕ, IfSome, List, is_none, length, true};
 ghost use Rattle.kc_graph.specs.Peeling.{at};
+ghost use Rattle.kc_claims.specs.Certificates.{claim_at};
 ghost use Rattle.kc_claims.specs.Insisting.{HasCount, IsCountFault};
-ghost use Rattle.kc_claims.specs.Judging.{AreCounted, IsFirstWrong, is_wrong, is_earlier, vertex_claim};
+ghost use Rattle.kc_claims.specs.Judging.{AreCounted, HasEach, IsFirstWrong, is_earlier, is_wrong, claim_place};
 ghost use Rattle.kc_claims.specs.Sweeping.{Agrees};
 ghost use Rattle.kc_claims.specs.declared.claim.Claim.{Claim};
 
 use crate::claim::Claim;
-use crate::claimed::ClaimLines;
+use crate::claimed::{ClaimLines, ClaimPlaces};
 use crate::fault::ClaimFault;
 use crate::stream::miscount_of;
+use crate::stretch::claim_at;
 use crate::sweep::Sweep;
-use crate::table::claim_of;
 
 /// What may be wrong with the counts of a vertex.
 #[derive(Clone, Copy)]
@@ -32,29 +33,41 @@ fn is_wrong(wrong: Wrong, core: u32, later: u32, supporters: u32) -> bool
     }
 }
 
-/// Whether the line of a vertex stands before that of another, if there is one.
-fn is_earlier(lines: &[u32], v: usize, other: Option<usize>) -> bool
-    requires vertex { v < length lines.now }
-    requires other { IfSome other (λ u. u < length lines.now) }
-    ensures { result ≡ is_earlier lines.now v other }
+/// The place of the claim of a vertex.
+fn claim_place(sweep: &Sweep, places: &ClaimPlaces, v: usize) -> u32
+    requires each { HasEach sweep.now places.now }
+    requires vertex { v < length sweep.now.core.items }
+    ensures { result ≡ claim_place places.now sweep.now.rank.items v }
+{
+    match places {
+        ClaimPlaces::AsIds => v as u32,
+        ClaimPlaces::AsRanks => sweep.rank[v],
+        ClaimPlaces::Column(places) => places[v],
+    }
+}
+
+/// Whether the claim of a vertex stands before that of another, if there is one.
+fn is_earlier(sweep: &Sweep, places: &ClaimPlaces, v: usize, other: Option<usize>) -> bool
+    requires each { HasEach sweep.now places.now }
+    requires vertex { v < length sweep.now.core.items }
+    requires other { IfSome other (λ u. u < length sweep.now.core.items) }
+    ensures { result ≡ is_earlier places.now sweep.now.rank.items v other }
 {
     match other {
         None => true,
-        Some(u) => lines[v] < lines[u],
+        Some(u) => claim_place(sweep, places, v) < claim_place(sweep, places, u),
     }
 }
 
 /// The vertex with which this is wrong whose claim stands first.
-fn first_wrong(wrong: Wrong, sweep: &Sweep, lines: &[u32]) -> Option<usize>
-    requires numbered { length sweep.now.core.items ≡ length lines.now }
-    requires later { length sweep.now.later.items ≡ length lines.now }
-    requires supported { length sweep.now.supporters.items ≡ length lines.now }
-    ensures { IsFirstWrong wrong sweep.now lines.now (length lines.now) result }
+fn first_wrong(wrong: Wrong, sweep: &Sweep, places: &ClaimPlaces) -> Option<usize>
+    requires { HasEach sweep.now places.now }
+    ensures { IsFirstWrong wrong sweep.now places.now (length sweep.now.core.items) result }
 {
     let mut first: Option<usize> = None;
-    for v in 0..lines.len() {
+    for v in 0..sweep.core.len() {
         let here = is_wrong(wrong, sweep.core[v], sweep.later[v], sweep.supporters[v]);
-        if here && is_earlier(lines, v, first) {
+        if here && is_earlier(sweep, places, v, first) {
             first = Some(v);
         }
     }
@@ -63,19 +76,17 @@ fn first_wrong(wrong: Wrong, sweep: &Sweep, lines: &[u32]) -> Option<usize>
 
 /// The claim of a vertex.
 fn vertex_claim(sweep: &Sweep, lines: &ClaimLines, v: usize) -> Claim
-    requires lines { v < length lines.now.lines.items }
-    requires ranked { v < length lines.now.ranked.items }
-    requires ids { v < length sweep.now.ids.items }
-    requires numbered { v < length sweep.now.core.items }
-    requires ranks { v < length sweep.now.rank.items }
-    ensures { result ≡ vertex_claim sweep.now lines.now v }
+    requires counted { (claims : List Claim) × (order : List ℕ) × AreCounted claims order sweep.now lines.now }
+    requires vertex { v < length sweep.now.core.items }
+    ensures { (claims : List Claim) (order : List ℕ) (i : ℕ) → AreCounted claims order sweep.now lines.now → i < length claims
+        → at order i ≡ v → result ≡ claim_at claims i }
 {
-    claim_of(
-        lines.lines[v],
+    claim_at(
+        &lines.stretches,
+        claim_place(sweep, &lines.places, v),
         sweep.ids[v],
         sweep.core[v],
         sweep.rank[v],
-        lines.ranked[v],
     )
 }
 
@@ -89,11 +100,11 @@ pub(crate) fn fault_by_counts(sweep: &Sweep, lines: &ClaimLines) -> Option<Claim
     ensures counted { (claims : List Claim) (order : List ℕ) → AreCounted claims order sweep.now lines.now → is_none result ≡ true
         → (i : ℕ) → i < length claims → HasCount sweep.now.later.items sweep.now.supporters.items (at order i) }
 {
-    if let Some(v) = first_wrong(Wrong::Miscounted, sweep, &lines.lines) {
+    if let Some(v) = first_wrong(Wrong::Miscounted, sweep, &lines.places) {
         let claim = vertex_claim(sweep, lines, v);
         return miscount_of(&claim, sweep.later[v], sweep.supporters[v]);
     }
-    match first_wrong(Wrong::Uncounted, sweep, &lines.lines) {
+    match first_wrong(Wrong::Uncounted, sweep, &lines.places) {
         Some(v) => Some(ClaimFault::Unknown(vertex_claim(sweep, lines, v))),
         None => None,
     }

@@ -30,6 +30,7 @@ mod places;
 mod placing;
 mod reading;
 mod stream;
+mod stretch;
 mod sweep;
 mod table;
 mod taking;

@@ -1,9 +1,9 @@
 //! Finds the vertices of ids, each of which is to stand for one of them alone.
-ghost use Rattle.std.specs.Prelude.{◌≡◌, ◌≢◌, ◌<◌, ◌^◌, ℕ, IfOk, IsErrOf, OnOk, false, length, slice_index_or};
+ghost use Rattle.std.specs.Prelude.{◌≡◌, ◌≢◌, ◌≤◌, ◌<◌, ◌^◌, ◌↔◌, ℕ, IfOk, IsErrOf, IsTrue, OnOk, false, length, slice_index_or};
 ghost use Rattle.std.specs.List.Sorted.{IsStrictlyIncreasing};
 ghost use Rattle.kc_graph.specs.Peeling.{at};
 ghost use Rattle.kc_claims.specs.Places.{ArePlaces};
-ghost use Rattle.kc_claims.specs.Placing.{AreVertices, HasPlaced, IsSecond};
+ghost use Rattle.kc_claims.specs.Placing.{AreOwnPlaces, AreVertices, HasPlaced, IsSecond};
 ghost use Rattle.kc_claims.specs.Taking.{is_marked};
 ghost use Rattle.kc_claims.specs.declared.placing.Unplaced.{Unplaced};
 
@@ -98,4 +98,31 @@ pub(crate) fn by_vertices<T: Copy>(
         moved[*v as usize] = column[place];
     }
     Ok(moved)
+}
+
+/// Whether each entry of a column is its own place.
+pub(crate) fn are_own_places(column: &[u32]) -> bool
+    ensures { IsTrue result ↔ AreOwnPlaces column.now }
+{
+    for (place, entry) in column.iter().enumerate() {
+        if *entry as usize != place {
+            return false;
+        }
+    }
+    true
+}
+
+/// The place of each vertex in this order of all.
+pub(crate) fn places_of(alloc: Global, order: &[u32]) -> Result<Vec<u32>, NoMemory>
+    requires few { length order.now ≤ 2 ^ 32 }
+    requires vertices { (i : ℕ) → i < length order.now → at order.now i < length order.now }
+    requires apart { (i j : ℕ) → i < j → j < length order.now → at order.now i ≢ at order.now j }
+    ensures one_each { IfOk result (λ places. length places.items ≡ length order.now) }
+    ensures placed { IfOk result (λ places. (i : ℕ) → i < length order.now → at places.items (at order.now i) ≡ i) }
+{
+    let mut places = vec![in alloc; 0u32; order.len()]?;
+    for (place, v) in order.iter().enumerate() {
+        places[*v as usize] = place as u32;
+    }
+    Ok(places)
 }

@@ -2,35 +2,26 @@
 ghost use Rattle.std.specs.Prelude.{◌≡◌, ◌<◌, ◌++◌, ◌∷◌, [], List, OnOk, length};
 ghost use Rattle.kc_graph.specs.Peeling.{at};
 ghost use Rattle.kc_claims.specs.Certificates.{claim_at};
-ghost use Rattle.kc_claims.specs.Tables.{AreBefore, AreColumns, AreTabled, claim_of, short_rank};
+ghost use Rattle.kc_claims.specs.Tables.{AreColumns, AreTabled, short_rank};
 ghost use Rattle.kc_claims.specs.declared.claim.Claim.{Claim};
 
 use crate::claim::Claim;
+use crate::stretch::{Stretch, claim_at, put_claim};
 use kc_graph::NoMemory;
 use std::alloc::Global;
 
-/// The claims of a certificate in their order, with a column for each thing that they tell. A claim takes 17 bytes.
+/// The claims of a certificate in their order, with a column for each thing that they tell. A claim takes 12 bytes.
+///
+/// So does each stretch of claims whose lines follow one another, and that all tell a rank or do not. A certificate without comments whose lines
+/// all have as many fields is one.
 #[derive(Drop)]
 pub struct ClaimTable {
     pub(crate) ids: Vec<u32>,
     pub(crate) numbers: Vec<u32>,
     /// The rank that each claim tells, or else its place.
     pub(crate) ranks: Vec<u32>,
-    /// Whether each claim tells a rank.
-    pub(crate) ranked: Vec<bool>,
-    pub(crate) lines: Vec<u32>,
-}
-
-/// The claim of this line.
-pub(crate) fn claim_of(line: u32, id: u32, number: u32, rank: u32, ranked: bool) -> Claim
-    ensures { result ≡ claim_of line id number rank ranked }
-{
-    Claim {
-        line: u64::from(line),
-        id,
-        number,
-        rank: if ranked { Some(rank) } else { None },
-    }
+    /// On which lines the claims stand, and which of them tell a rank.
+    pub(crate) stretches: Vec<Stretch>,
 }
 
 /// The rank that a claim tells, or else its place.
@@ -52,15 +43,13 @@ impl ClaimTable {
             ids: Vec::new(alloc),
             numbers: Vec::new(alloc),
             ranks: Vec::new(alloc),
-            ranked: Vec::new(alloc),
-            lines: Vec::new(alloc),
+            stretches: Vec::new(alloc),
         }
     }
 
-    /// Puts a claim behind others, whose lines stand before its own. There is no memory for more than 2^32 claims or lines.
+    /// Puts a claim behind others. There is no memory for more than 2^32 claims or lines.
     pub(crate) fn put(&mut self, claim: Claim) -> Result<(), NoMemory>
-        ensures { OnOk result ((claims : List Claim) → AreTabled claims self.old → AreBefore claims claim.line
-            → AreTabled (claims ++ claim ∷ []) self.new) }
+        ensures { OnOk result ((claims : List Claim) → AreTabled claims self.old → AreTabled (claims ++ claim ∷ []) self.new) }
     {
         let place = self.ids.len();
         if place > u32::MAX as usize || claim.line > u64::from(u32::MAX) {
@@ -69,25 +58,29 @@ impl ClaimTable {
         self.ids.push(claim.id)?;
         self.numbers.push(claim.number)?;
         self.ranks.push(short_rank(place as u32, claim.rank))?;
-        self.ranked.push(claim.rank.is_some())?;
-        self.lines.push(claim.line as u32)?;
+        let next = Stretch {
+            place: place as u32,
+            line: claim.line as u32,
+            ranked: claim.rank.is_some(),
+        };
+        put_claim(&mut self.stretches, next)?;
         Ok(())
     }
 
     /// The claim at a place.
     pub(crate) fn claim(&self, place: usize) -> Claim
         requires ids { place < length self.now.ids.items }
-        requires columns { (claims : List Claim) × AreColumns claims self.now.numbers.items self.now.ranks.items self.now.ranked.items self.now.lines.items
+        requires columns { (claims : List Claim) × AreColumns claims self.now.numbers.items self.now.ranks.items self.now.stretches.items
             × (length claims ≡ length self.now.ids.items) }
-        ensures { (claims : List Claim) → AreColumns claims self.now.numbers.items self.now.ranks.items self.now.ranked.items self.now.lines.items
+        ensures { (claims : List Claim) → AreColumns claims self.now.numbers.items self.now.ranks.items self.now.stretches.items
             → place < length claims → at self.now.ids.items place ≡ (claim_at claims place).id → result ≡ claim_at claims place }
     {
-        claim_of(
-            self.lines[place],
+        claim_at(
+            &self.stretches,
+            place as u32,
             self.ids[place],
             self.numbers[place],
             self.ranks[place],
-            self.ranked[place],
         )
     }
 }

@@ -3,4 +3,4 @@ use Rattle.kc_claims.specs.Judging.{IsFirstWrong}
 use Rattle.kc_claims.proofs.judging.first_wrong.Given as goal
 
 abbrev pub invariant-loop-v : goal.invariant-loop-v
-invariant-loop-v l = IsFirstWrong l.wrong l.sweep l.lines l.v l.first
+invariant-loop-v l = IsFirstWrong l.wrong l.sweep l.places l.v l.first

@@ -13,7 +13,7 @@ returns-in-Err-clause-refused c = λ refusal h.
     let same : here ≡ refusal = cc in
     let first : claims_after c.loop-first.line (lines c.loop-first.rest.now) ≡ Err here =
     claims_after-first c.loop-first.line c.loop-first.rest.now c.in-Some.first.now c.in-Some.others.now (Err c.in-Err.kind) c.in-Some.ensures.lines
-    c.in-Err.ensures.claim in
+    c.in-Err.ensures in
     claims_of-is c.args.text.now (Err refusal)
     (sym c.loop-first.invariant.joined ∙ ap (behind_claims c.loop-first.claims.items) first ∙ ap (λ (r : Refusal). Err r) same)
 
