@@ -2,6 +2,7 @@
 pub mod Columns
 pub mod Dialects
 pub mod EdgeFaults
+pub mod FirstPairs
 pub mod Names
 pub mod PlainRuns
 pub mod Rewritten

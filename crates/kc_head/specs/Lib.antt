@@ -3,3 +3,4 @@ pub mod Foreign
 pub mod Heads
 pub mod Places
 pub mod Shown
+pub mod Sizes

@@ -14,6 +14,8 @@ pub enum Foreign {
     Json,
     /// Its lines end in carriage returns alone: one stands before the last byte, and there is no newline.
     BareReturns,
+    /// Its first pair may be the sizes of its graph. The head alone does not tell it.
+    SizesFirst,
 }
 
 /// Whether a carriage return stands before the last byte, and no newline anywhere.

@@ -1,9 +1,11 @@
-//! What the head of a text tells: that it is no edge list, and where a line of it is wrong.
-use kc_dialect::{EdgeFault, Signature, edge_fault};
-use kc_head::{Foreign, HeadFault, foreign_in, line_in, read_head, show_place, wrong_column};
+//! What the head of a text tells: that it is no edge list, what its first pair is, and where a line of it is wrong.
+use kc_dialect::{Dialect, EdgeFault, Separator, Signature, edge_fault, first_pair};
+use kc_head::{
+    Foreign, HeadFault, foreign_in, line_in, may_be_sizes, read_head, show_place, wrong_column,
+};
 use kc_io::mem_source::MemSource;
 use kc_io::source::Source;
-use kc_text::{Kind, Refusal};
+use kc_text::{Kind, Limits, Refusal, TextReader};
 use std::process::Abort;
 use std::test::Fail;
 
@@ -48,6 +50,46 @@ fn texts_that_are_no_edge_lists(rt: HostRuntime) -> Result<(), Fail> {
     assert_eq!(rt; foreign_in(b"1 2\r\n2 3\r\n"), None);
     assert_eq!(rt; foreign_in(b"a\rb\n"), None);
     assert_eq!(rt; foreign_in(b""), None);
+    Ok(())
+}
+
+#[test]
+fn first_pairs_of_texts(rt: HostRuntime) -> Result<(), Fail> {
+    let plain = Dialect::PLAIN;
+    let commas = Dialect {
+        columns: (3, 1),
+        separator: Separator::Comma,
+        skip: 1,
+        ..Dialect::PLAIN
+    };
+    assert_eq!(rt; first_pair(plain, b""), None);
+    assert_eq!(rt; first_pair(plain, b"\xef\xbb\xbf9 5\n1 2\n"), Some((9, 5)));
+    assert_eq!(rt;
+        first_pair(plain, b"# 3 2\n\na b\n7 4294967296\n5 9 x"),
+        Some((5, 9))
+    );
+    assert_eq!(rt; first_pair(commas, b"4,x,3\n2,y,1\n"), Some((1, 2)));
+    Ok(())
+}
+
+/// Checks whether a pair may be the sizes of the graph that all others of a text tell.
+fn check_sizes<R: Abort + AllocGlobal>(rt: &R, text: &[u8], pair: (u32, u32), may_be: bool) {
+    let mut reader = TextReader::new(rt.alloc(), Limits::GRAPH);
+    reader.feed(rt.alloc(), text).expect(rt, "memory");
+    let named = reader.finish_edges(rt.alloc()).expect(rt, "edges");
+    assert_eq!(rt; may_be_sizes(pair, &named), may_be);
+}
+
+#[test]
+fn pairs_that_may_be_sizes(rt: HostRuntime) -> Result<(), Fail> {
+    check_sizes(&rt, b"9 2\n1 2\n2 3\n", (9, 2), true);
+    check_sizes(&rt, b"3 3\n1 2\n2 3\n3 1\n", (3, 3), true);
+    check_sizes(&rt, b"2 3\n1 2\n2 1\n1 2\n2 2\n", (2, 3), true);
+    check_sizes(&rt, b"9 3\n1 2\n2 3\n", (9, 3), false);
+    check_sizes(&rt, b"9 1\n1 2\n2 3\n", (9, 1), false);
+    check_sizes(&rt, b"2 1\n3 2\n", (2, 1), false);
+    check_sizes(&rt, b"5 0\n", (5, 0), false);
+    check_sizes(&rt, b"0 1\n1 0\n", (0, 1), false);
     Ok(())
 }
 
