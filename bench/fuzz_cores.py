@@ -21,6 +21,7 @@ import sys
 import tempfile
 
 TOP = pathlib.Path(__file__).resolve().parent.parent
+SIZES_FIRST = "the first line of two ids may tell how many vertices and edges there are, and was read as an edge; pass over it by --skip, as by --skip 1"
 
 
 def text_of(draw):
@@ -49,6 +50,19 @@ def graph_of(text):
     """The neighbours of each id."""
     rows = (line.split() for line in text.splitlines())
     return dict(sorted(graph_of_pairs(map(int, row) for row in rows if row and row[0][0] not in "#%").items()))
+
+
+def may_be_sizes(first, pairs):
+    """Whether a pair among these may be the sizes of the graph of the others, of two vertices and one edge at least: no id is above the first number,
+    but for the second, and the second counts the others that are no loops."""
+    n, m = first
+    return sum(a != b for a, b in pairs) == m + (n != m) and n > 1 and m > 0 and all(v <= n or v == m for pair in pairs for v in pair)
+
+
+def told_of_sizes(text):
+    """What is told of an edge list that begins with what may be its sizes, and else nothing."""
+    pairs = [tuple(map(int, row)) for row in (line.split() for line in text.splitlines()) if row and row[0][0] not in "#%"]
+    return f"cores: {SIZES_FIRST}\n" if pairs and may_be_sizes(pairs[0], pairs) else ""
 
 
 def core_numbers(neighbours):
@@ -348,7 +362,7 @@ def faults(program, draw, text, k):
     neighbours = graph_of(text)
     core = core_numbers(neighbours)
     size = sum(map(len, neighbours.values())) // 2
-    summary = f"vertices {len(core)} edges {size} top {max(core.values(), default=0)}\n"
+    summary = told_of_sizes(text) + f"vertices {len(core)} edges {size} top {max(core.values(), default=0)}\n"
     text = marked(draw, text)
     for words, (names, rows) in wanted(neighbours, core, k).items():
         quiet = ("--quiet",) if draw.random() < 0.2 else ()

@@ -199,6 +199,14 @@ def foreign(text, dialect):
     return (marks or returns)[:1]
 
 
+def told_of_sizes(text, dialect, rows):
+    """What is told of a table whose first pair, in its first mebibyte, may be the sizes of the graph, and else nothing."""
+    first = next((ids for _, ids, _ in rows_of(text[:PIECE], dialect) if ids), None)
+    if first is None or dialect.ids == "names":
+        return []
+    return [fuzz_cores.SIZES_FIRST] if fuzz_cores.may_be_sizes(first, [ids for _, ids, _ in rows if ids]) else []
+
+
 def is_told(found, starts):
     """Whether the lines on standard error begin so."""
     found = found.splitlines()
@@ -232,7 +240,7 @@ def difference(program, draw, place, tried):
     else:
         wanted, summary = wanted_of(rows, command, words)
         tried["read with bad lines" if bad else "read, without an edge line" if not rows else f"read as {dialect.ids}"] += 1
-        starts = [front + sentence for sentence in foreign(text, dialect)]
+        starts = [front + sentence for sentence in foreign(text, dialect) or told_of_sizes(text, dialect, rows)]
         tried["read, and told that it may be no table"] += len(starts)
         starts += [f"{front}line {number}, column {column}: " for number, column in bad[:5]]
         starts += [f"{front}{'1 line was' if len(bad) == 1 else f'{len(bad)} lines were'} passed over"] if bad else []

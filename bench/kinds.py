@@ -64,7 +64,7 @@ def refused(kind, text, line, column, mends, *words, **more):
     return Row(kind, text.encode() if isinstance(text, str) else text, words, line=line, column=column, mends=mends, **more)
 
 
-TAKEN_AS_EDGE = "taken as an edge, without a word"
+SIZES_FIRST = (fuzz_cores.SIZES_FIRST,)
 
 
 def plain_rows():
@@ -150,11 +150,16 @@ def format_rows():
         right("MatrixMarket with values", reals, PATH, "--skip", "2", "--columns", "1,2"),
         right("MatrixMarket with values and --columns alone: its size line is an edge line", reals, [(9, 9), (2, 1), (3, 2)], "--columns", "1,2",
               told=("this is MatrixMarket; pass over its lines up to that of the sizes by --skip",)),
-        refused("a header line n m", "9 2\n1 2\n2 3\n", 1, 1, "--skip", known=f"{TAKEN_AS_EDGE}; nothing in the file tells it", silent=True),
+        right("a header line n m, which is an edge line: told", "9 2\n1 2\n2 3\n", [(9, 2), *PATH], told=SIZES_FIRST),
+        right("a header line n m, which is an edge line: told", size_line, [(3, 2), *PATH], told=SIZES_FIRST),
+        right("a header line n m with weights, which is an edge line: told", "# a path\n3 2\n1 2 0.5\n2 3 1\n", [(3, 2), *PATH],
+              "--columns", "1,2", told=SIZES_FIRST),
+        right("a header line n m with as many vertices as edges, which is a loop: told", "3 3\n1 2\n2 3\n3 1\n", [*PATH, (3, 1)], told=SIZES_FIRST),
         right("a header line n m", size_line, PATH, "--skip", "1"),
+        right("a header line n m among names", "3 2\n1 2\n2 3\n", [("3", "2"), ("1", "2"), ("2", "3")], "--ids", "names"),
+        right("a first edge whose second id counts the others, but not the first", "2 1\n3 2\n", [(2, 1), (3, 2)]),
         refused("adjacency list", adjacency, 1, 5, "adjacency"),
-        refused("adjacency list, no vertex alone", "1 2 3\n2 3\n3 4\n", 1, 5, "adjacency", "--columns", "1,2",
-                known="lines of different lengths are read without a word", silent=True),
+        right("adjacency list, first two columns: the first neighbour alone, as docs/CORES.md says", "1 2 3\n2 3\n3 4\n", [*PATH, (3, 4)], "--columns", "1,2"),
         refused("DIMACS", dimacs, 1, 1, "--columns"),
         right("DIMACS", dimacs, PATH, "--columns", "2,3", "--bad-lines", "skip",
               told=("line 1, column 3: ", "line 2, column 3: ", "2 lines were passed over")),

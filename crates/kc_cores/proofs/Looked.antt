@@ -13,11 +13,12 @@ use Rattle.kc_head.specs.Places.{wrong_column}
 use Rattle.kc_head.specs.declared.foreign.Foreign.{Foreign}
 use Rattle.kc_head.proofs.Fronts.{head-cut, mark-cut}
 use Rattle.kc_read.specs.Reading.{AreEdgesWithin}
-use Rattle.kc_text.specs.Meaning.{Means, Refuses, meaning}
+use Rattle.kc_text.specs.Inputs.{IsNamedEdges}
+use Rattle.kc_text.specs.Meaning.{Means, Refuses, Told, meaning}
 use Rattle.kc_text.specs.declared.limits.TheConstants.Limits.{GRAPH}
-use Rattle.kc_cores.specs.Answers.{IsForeignBy, IsRefusedBy}
+use Rattle.kc_cores.specs.Answers.{IsForeignBy, IsRefusedBy, graph_meaning, remark_by}
 use Rattle.kc_cores.specs.Inputs.{AreReadFrom, HasFewIds, IsLookedAt, text_bytes}
-use Rattle.kc_cores.specs.Sentences.{foreign}
+use Rattle.kc_cores.specs.Sentences.{remark_on}
 use Rattle.kc_cores.proofs.Graphs.{graph_meaning-in, graph_meaning-is}
 
 -- what is read of a text is what is read of its head, and then what is behind it
@@ -40,11 +41,14 @@ IsLookedAt-put_back dialect (Some all) between after head text h is put = (
 pub of_known : (P : List ℕ → Type 0) (known : Option (List ℕ)) (bytes : List ℕ) → known ≡ Some bytes → IfSome known P → P bytes
 of_known P known bytes is h = subst (λ (k : Option (List ℕ)). IfSome k P) is h
 
--- what the head tells is told by the head of all bytes, where they are known
-pub IsForeignBy-looked : (dialect : Option Dialect) (known left : Option (List ℕ)) (head : List ℕ) (what : Option Foreign)
-    → IsLookedAt dialect known left head → what ≡ foreign dialect head → IsForeignBy dialect known what
-IsForeignBy-looked dialect None left head what looked is = tt
-IsForeignBy-looked dialect (Some all) left head what looked is = is ∙ ap (foreign dialect) looked.0
+-- what the head and all that was read say is what all bytes say, where they are known
+pub IsForeignBy-looked : (dialect : Option Dialect) (known left : Option (List ℕ)) (head : List ℕ) (found : DialectEdges) (what : Option Foreign)
+    → IsLookedAt dialect known left head → AreReadFrom dialect known found
+    → ((told : Told) → IsNamedEdges told found.named → what ≡ remark_on dialect head told) → IsForeignBy dialect known what
+IsForeignBy-looked dialect None left head found what looked r is = tt
+IsForeignBy-looked dialect (Some all) left head found what looked r is =
+    is r.told r.are ∙ ap (λ (h : List ℕ). remark_on dialect h r.told) looked.0
+    ∙ sym (ap (remark_by dialect all) (ap (graph_meaning dialect) (sym r.read) ∙ r.means))
 
 -- a mark, and then some bytes
 marked : List ℕ → List ℕ

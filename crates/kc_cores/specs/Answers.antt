@@ -24,7 +24,7 @@ use Rattle.kc_lines.specs.Fields.{Label, Name, Number}
 use Rattle.kc_lines.specs.declared.format.Format.{Format}
 use Rattle.kc_names.specs.Names.{name_at}
 use Rattle.kc_cores.specs.Lines.{counts_line, edge_line, layer_line, member_line, number_line}
-use Rattle.kc_cores.specs.Sentences.{GraphRefusal, foreign, told_foreign}
+use Rattle.kc_cores.specs.Sentences.{GraphRefusal, remark_on, told_foreign}
 use Rattle.kc_cores.specs.Skips.{skipped_report}
 use Rattle.kc_cores.specs.Wishes.{Query}
 use Rattle.kc_cores.specs.declared.request.Task.{Task}
@@ -47,9 +47,18 @@ IsRefusedBy dialect bytes refusal =
     (graph_meaning dialect bytes ≡ Refuses refusal.placed.refusal.line refusal.placed.refusal.kind)
     × (refusal.placed.column ≡ refused_column dialect bytes refusal.placed.refusal) × (refusal.head ≡ head_of bytes)
 
--- what a text may be that is no lines of a graph, as the head of all its bytes tells, where they are known
+-- what a text with this meaning may be that is no lines of a graph; a text that is refused is none that was read as such
+abbrev pub remark_by : Option Dialect → List ℕ → Meaning → Option Foreign
+remark_by dialect bytes (Refuses line kind) = None
+remark_by dialect bytes (Means told) = remark_on dialect (head_of bytes) told
+
+-- what the text of a graph may be that is no lines of a graph
+abbrev pub graph_remark : Option Dialect → List ℕ → Option Foreign
+graph_remark dialect bytes = remark_by dialect bytes (graph_meaning dialect bytes)
+
+-- what a text may be that is no lines of a graph, as all its bytes tell, where they are known
 abbrev pub IsForeignBy : Option Dialect → Option (List ℕ) → Option Foreign → Type 0
-IsForeignBy dialect known what = IfSome known (λ all. what ≡ foreign dialect (head_of all))
+IsForeignBy dialect known what = IfSome known (λ all. what ≡ graph_remark dialect all)
 
 -- the bad lines of a text in a dialect, if it is in one
 abbrev pub passed_over : Option Dialect → List ℕ → List BadLine

@@ -1,11 +1,15 @@
 -- The lines that a run writes about itself.
 use Rattle.std.specs.Prelude.{◌==◌, ℕ, zero, suc, List, [], ◌∷◌, ◌++◌, Option, None, Some, codes, if◌then◌else◌}
+use Rattle.std.specs.Option.{option_or}
 use Rattle.std.specs.Fmt.{decimal}
 use Rattle.kc_text.specs.declared.kind.Kind.{Kind}
 use Rattle.kc_text.specs.declared.kind.Kind.TheVariants.{NotANumber, MissingField, ExtraField, NumberTooLarge, LoopInBatch, UpdateOutsideBatch}
 use Rattle.kc_text.specs.declared.kind.Kind.TheVariants.{EdgeLineInBatch, TooManyVertices, TooManyEdgeLines, TooManyUpdates, TooManyBatches, TooLong}
 use Rattle.kc_text.specs.declared.refusal.Refusal.{Refusal}
+use Rattle.kc_text.specs.Meaning.{Told}
+use Rattle.kc_dialect.specs.FirstPairs.{first_pair}
 use Rattle.kc_dialect.specs.declared.dialect.Dialect.{Dialect}
+use Rattle.kc_dialect.specs.declared.dialect.TheConstants.Dialect.{PLAIN}
 use Rattle.kc_dialect.specs.declared.dialect.Ids.{Ids}
 use Rattle.kc_dialect.specs.declared.dialect.Ids.TheVariants.{Names, Numbers}
 use Rattle.kc_dialect.specs.declared.signatures.Signature.{Signature}
@@ -13,8 +17,9 @@ use Rattle.kc_dialect.specs.declared.signatures.Signature.TheVariants.{Gzip, Bzi
 use Rattle.kc_dialect_read.specs.declared.fault.PlacedRefusal.{PlacedRefusal}
 use Rattle.kc_head.specs.Foreign.{foreign_in}
 use Rattle.kc_head.specs.Shown.{shown_place}
+use Rattle.kc_head.specs.Sizes.{may_be_sizes}
 use Rattle.kc_head.specs.declared.foreign.Foreign.{Foreign}
-use Rattle.kc_head.specs.declared.foreign.Foreign.TheVariants.{BareReturns, Json, Marked}
+use Rattle.kc_head.specs.declared.foreign.Foreign.TheVariants.{BareReturns, Json, Marked, SizesFirst}
 use Rattle.kc_cores.specs.Wishes.{GraphText}
 use Rattle.kc_cores.specs.declared.input.FileFault.{FileFault}
 use Rattle.kc_cores.specs.declared.input.FileFault.TheVariants.{Missing, Folder, Forbidden, Other}
@@ -81,11 +86,32 @@ abbrev pub foreign_sentence : Foreign → List ℕ
 foreign_sentence (Marked signature) = format_sentence signature
 foreign_sentence Json = codes "this is JSON; make two columns of it, as by jq -r '[.source,.target]|@tsv' FILE | cores numbers"
 foreign_sentence BareReturns = codes "the lines end in CR alone; make them newlines, as by tr '\\r' '\\n' < FILE | cores numbers"
+foreign_sentence SizesFirst =
+    codes "the first line of two ids may tell how many vertices and edges there are, and was read as an edge; pass over it by --skip, as by --skip 1"
 
 -- what a text is that is no lines of a graph, as its head tells; where lines at the top are passed over, that is not asked
 abbrev pub foreign : Option Dialect → List ℕ → Option Foreign
 foreign None head = foreign_in head
 foreign (Some dialect) head = if dialect.skip == 0 then foreign_in head else None
+
+-- the first pair of numbers that a text with this head tells, where its ids are numbers
+abbrev pub first_pair_by : Ids → Dialect → List ℕ → Option (ℕ × ℕ)
+first_pair_by Numbers dialect head = first_pair dialect head
+first_pair_by Names dialect head = None
+
+-- the same of a text that is in a dialect, or in none
+abbrev pub first_pair_in : Option Dialect → List ℕ → Option (ℕ × ℕ)
+first_pair_in None head = first_pair PLAIN head
+first_pair_in (Some dialect) head = first_pair_by dialect.ids dialect head
+
+-- that a text which has told all this begins with sizes, where its first pair may be these
+abbrev pub sizes_of_pair : Option (ℕ × ℕ) → Told → Option Foreign
+sizes_of_pair None told = None
+sizes_of_pair (Some pair) told = if may_be_sizes pair told then Some SizesFirst else None
+
+-- what a text may be that was read as lines of a graph, and may be none, as its head and all that it has told say
+abbrev pub remark_on : Option Dialect → List ℕ → Told → Option Foreign
+remark_on dialect head told = option_or (foreign dialect head) (sizes_of_pair (first_pair_in dialect head) told)
 
 -- the sentence for a text that is no lines of a graph, or else for a line of it
 abbrev pub sentence_for : Option Foreign → Option Dialect → Kind → List ℕ

@@ -1,14 +1,12 @@
 //! The run over an input and sinks in memory.
 ghost use Rattle.std.specs.Prelude.{◌≡◌, ◌++◌, ℕ, List, Option, Some, map};
 ghost use Rattle.kc_files.specs.Folders.{held_in};
-ghost use Rattle.kc_head.specs.Heads.{head_of};
 ghost use Rattle.kc_text.specs.Meaning.{Refuses};
 ghost use Rattle.kc_text.specs.declared.kind.Kind.{Kind};
-ghost use Rattle.kc_cores.specs.Answers.{IsTextFor, graph_meaning};
+ghost use Rattle.kc_cores.specs.Answers.{IsTextFor, graph_meaning, graph_remark};
 ghost use Rattle.kc_cores.specs.CoresEnded.{ToldLine};
 ghost use Rattle.kc_cores.specs.Inputs.{bytes_behind, bytes_in};
 ghost use Rattle.kc_cores.specs.Saved.{RunEnded};
-ghost use Rattle.kc_cores.specs.Sentences.{foreign};
 ghost use Rattle.kc_cores.specs.Wishes.{Asks, Query, Saves, wish_of};
 
 use crate::answer::answer;
@@ -71,11 +69,11 @@ pub fn answer_in_memory<W: AsStr>(
         streams.old.wire streams.new.wire folder.old folder.new × ToldLine ⟦<MemSink as Sink>⟧ line streams.old.err streams.new.err }
     ensures done { (query : Query) (bytes : List ℕ) → wish_of (map W.text words.now) ≡ Asks query
         → bytes_in streams.old.input query.graph.file ≡ Some bytes → result ≡ CoresStatus.Done
-        → (text : List ℕ) × (summary : List ℕ) × IsTextFor query bytes (foreign query.graph.dialect (head_of bytes)) text summary
+        → (text : List ℕ) × (summary : List ℕ) × IsTextFor query bytes (graph_remark query.graph.dialect bytes) text summary
         × (streams.new.out.sink.taken ≡ streams.old.out.sink.taken ++ text) }
     ensures saved { (name : List ℕ) (query : Query) (bytes : List ℕ) → wish_of (map W.text words.now) ≡ Saves name query
         → bytes_in streams.old.input query.graph.file ≡ Some bytes → result ≡ CoresStatus.Done
-        → (text : List ℕ) × (summary : List ℕ) × IsTextFor query bytes (foreign query.graph.dialect (head_of bytes)) text summary
+        → (text : List ℕ) × (summary : List ℕ) × IsTextFor query bytes (graph_remark query.graph.dialect bytes) text summary
         × (held_in folder.new name ≡ Some (Some text)) }
     ensures refused { (query : Query) (bytes : List ℕ) → wish_of (map W.text words.now) ≡ Asks query
         → bytes_in streams.old.input query.graph.file ≡ Some bytes → result ≡ CoresStatus.Refused

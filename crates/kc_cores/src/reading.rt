@@ -8,8 +8,8 @@ ghost use Rattle.kc_cores.specs.Wishes.{GraphText};
 
 use crate::ending::{Ending, refused, unopened};
 use crate::input::FileInput;
+use crate::remarks::remark_on;
 use crate::request::NamedText;
-use crate::sentences::foreign;
 use kc_dialect::{Dialect, SkippedLines, without_mark};
 use kc_dialect_read::{DialectEdges, DialectFault, PlacedRefusal, read_edges_in};
 use kc_flat::FlatGraph;
@@ -198,8 +198,8 @@ fn graph_behind<S: Source>(
         → IfErr result (λ ending. HasNoGraph ending (text_of text.entry) known (S.faults source.old) (S.faults source.new)) }
     ensures faultless { OnOk result (S.faults source.new ≡ S.faults source.old) }
 {
-    let what = foreign(text.dialect, head);
     let found = edges_from(alloc, text, head, source)?;
+    let what = remark_on(text.dialect, head, &found.named);
     Ok(graph_of(alloc, what, found)?)
 }
 

@@ -125,6 +125,9 @@ pub(crate) fn foreign_sentence(foreign: Foreign) -> &'static str
         Foreign::BareReturns => {
             "the lines end in CR alone; make them newlines, as by tr '\\r' '\\n' < FILE | cores numbers"
         }
+        Foreign::SizesFirst => {
+            "the first line of two ids may tell how many vertices and edges there are, and was read as an edge; pass over it by --skip, as by --skip 1"
+        }
     }
 }
 

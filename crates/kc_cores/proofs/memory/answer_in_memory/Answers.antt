@@ -1,15 +1,13 @@
 -- The bytes of the input are known, whether they are those of standard input or of a file.
 use Rattle.std.proofs.Common.{◌≡◌, ◌++◌, ◌∙◌, List, [], ℕ, Option, Some, IfSome, ap, append-nil, map, subst, sym}
-use Rattle.kc_head.specs.Heads.{head_of}
 use Rattle.kc_head.specs.declared.foreign.Foreign.{Foreign}
 use Rattle.kc_text.specs.Meaning.{Refuses}
 use Rattle.kc_text.specs.declared.kind.Kind.{Kind}
-use Rattle.kc_cores.specs.Answers.{IsForeignBy, IsRefusedBy, IsTextFor, graph_meaning}
+use Rattle.kc_cores.specs.Answers.{IsForeignBy, IsRefusedBy, IsTextFor, graph_meaning, graph_remark}
 use Rattle.kc_cores.specs.CoresEnded.{IsLineAt, TookAt, given_bytes}
 use Rattle.kc_cores.specs.Inputs.{bytes_behind, known_bytes}
 use Rattle.kc_files.specs.Folders.{FolderState, held_in}
 use Rattle.kc_cores.specs.Saved.{SavedAt}
-use Rattle.kc_cores.specs.Sentences.{foreign}
 use Rattle.kc_cores.specs.Wishes.{Asks, Query, Wish, wish_of}
 use Rattle.kc_cores.specs.declared.CoresStatus.{CoresStatus}
 use Rattle.kc_cores.specs.declared.CoresStatus.TheVariants as status
@@ -17,15 +15,15 @@ use Rattle.kc_cores.proofs.Ended.{asked-same}
 use Rattle.kc_cores.proofs.memory.answer_in_memory.Goals as goal
 
 -- what is an answer for some bytes is one for these, which they are
-text-by : (query : Query) (bytes all text summary : List ℕ) (what : Option Foreign) → all ≡ bytes → what ≡ foreign query.graph.dialect (head_of bytes)
-    → IsTextFor query all what text summary → IsTextFor query bytes (foreign query.graph.dialect (head_of bytes)) text summary
+text-by : (query : Query) (bytes all text summary : List ℕ) (what : Option Foreign) → all ≡ bytes → what ≡ graph_remark query.graph.dialect bytes
+    → IsTextFor query all what text summary → IsTextFor query bytes (graph_remark query.graph.dialect bytes) text summary
 text-by query bytes all text summary what same begins is =
     subst (λ (w : Option Foreign). IsTextFor query bytes w text summary) begins (subst (λ (x : List ℕ). IsTextFor query x what text summary) same is)
 
 -- what was taken by a run that is done, of bytes that are known, are their lines
 done-in : (end : CoresStatus) (wish : Wish) (query : Query) (bytes a b : List ℕ) (known : Wish → Option (List ℕ)) → end ≡ status.Done
     → wish ≡ Asks query → known (Asks query) ≡ Some bytes → TookAt end wish (known wish) (Some a) (Some b)
-    → (text : List ℕ) × (summary : List ℕ) × IsTextFor query bytes (foreign query.graph.dialect (head_of bytes)) text summary × (b ≡ a ++ text)
+    → (text : List ℕ) × (summary : List ℕ) × IsTextFor query bytes (graph_remark query.graph.dialect bytes) text summary × (b ≡ a ++ text)
 done-in end wish query bytes a b known is asks here took =
     let at_done : TookAt status.Done wish (known wish) (Some a) (Some b) =
     subst (λ (e : CoresStatus). TookAt e wish (known wish) (Some a) (Some b)) is took in
@@ -65,13 +63,13 @@ returns-clause-refused g c = λ query bytes asks here end.
 -- the text of a file that was saved, of bytes that are known
 saved-in : (end : CoresStatus) (query : Query) (bytes name line : List ℕ) (known left : Option (List ℕ)) (f f' : ℕ) (p p' : FolderState)
     → end ≡ status.Done → known ≡ Some bytes → SavedAt held_in (λ s. s.failed) end name query known left line f f' p p'
-    → (text : List ℕ) × (summary : List ℕ) × IsTextFor query bytes (foreign query.graph.dialect (head_of bytes)) text summary
+    → (text : List ℕ) × (summary : List ℕ) × IsTextFor query bytes (graph_remark query.graph.dialect bytes) text summary
     × (held_in p' name ≡ Some (Some text))
 saved-in end query bytes name line known left f f' p p' is here saved =
     let ((text, summary, (all, same, (what, begins, is_text)), told, has), others, read, faultless, kept) =
     subst (λ (e : CoresStatus). SavedAt held_in (λ s. s.failed) e name query known left line f f' p p') is saved in
     let equal : all ≡ bytes = subst (λ (k : Option (List ℕ)). IfSome k (λ x. all ≡ x)) here same in
-    let told_by : what ≡ foreign query.graph.dialect (head_of bytes) = subst (λ (k : Option (List ℕ)). IsForeignBy query.graph.dialect k what) here begins in
+    let told_by : what ≡ graph_remark query.graph.dialect bytes = subst (λ (k : Option (List ℕ)). IsForeignBy query.graph.dialect k what) here begins in
     (text, summary, text-by query bytes all text summary what equal told_by is_text, ap (λ (b : Option (List ℕ)). Some b) has)
 
 pub returns-clause-saved : goal.returns-clause-saved

@@ -18,5 +18,5 @@ returns-clause-graph g c = λ known looked.
     IsNamedGraphOf-read c.args.text.dialect known c.in_ok-graph_of.field-0.ids.items c.in_ok-graph_of.field-0.names c.in_ok-found.found
     c.in_ok-graph_of.field-0.graph c.in_ok-graph_of.field-0.skipped c.in_ok-graph_of.field-0.what (c.in_ok-found.ensures.edges known looked)
     c.in_ok-graph_of.ensures.ids c.in_ok-graph_of.ensures.names c.in_ok-graph_of.ensures.graph c.in_ok-graph_of.ensures.skipped
-    (IsForeignBy-looked c.args.text.dialect known _ c.args.head.now c.in_ok-graph_of.field-0.what looked
-    (c.in_ok-graph_of.ensures.what ∙ c.foreign-what.ensures))
+    (IsForeignBy-looked c.args.text.dialect known _ c.args.head.now c.in_ok-found.found c.in_ok-graph_of.field-0.what looked
+    (c.in_ok-found.ensures.edges known looked) (λ told are. c.in_ok-graph_of.ensures.what ∙ c.remark_on-what.ensures told are))
