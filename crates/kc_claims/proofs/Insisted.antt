@@ -1,15 +1,13 @@
 -- How a stream is looked through that is to ascend, and what is found then.
-use Rattle.std.proofs.Common.{◌≡◌, ◌<◌, ◌+◌, ◌++◌, ◌∙◌, Global, ℕ, List, None, Option, Some, Vec, ap, arith, length, length-append, subst, sym}
+use Rattle.std.proofs.Common.{◌≡◌, ◌<◌, ◌+◌, ◌++◌, ◌∙◌, Global, ℕ, List, None, Option, Some, Vec, ap, append_assoc, arith, length, length-append, subst, sym}
 use Rattle.kc_graph.specs.Peeling.{at}
 use Rattle.kc_text.specs.Forms.{all_said}
 use Rattle.kc_text.specs.Lines.{EndsLine}
-use Rattle.kc_text.specs.declared.limits.TheConstants.Limits.{GRAPH}
 use Rattle.kc_text.specs.declared.line.TextLine.{TextLine}
-use Rattle.kc_text.proofs.SaidAppend.{said-append}
-use Rattle.kc_claims.specs.Feeding.{IsFedWith}
+use Rattle.kc_text.proofs.SaidAppend.{ends-append, said-append}
 use Rattle.kc_claims.specs.Certificates.{AreCertificate, TellCoreNumbers}
 use Rattle.kc_claims.specs.Insisting.{HasCount, HasFollowed, HasInsisted, HasInsistedFor, IsCountFault}
-use Rattle.kc_claims.specs.LineFaults.{HasFaultyLine, first_line_fault, last_pair}
+use Rattle.kc_claims.specs.LineFaults.{first_line_fault, last_pair}
 use Rattle.kc_claims.specs.Streams.{HoldsOfStream, IsFaultOfStream}
 use Rattle.kc_claims.specs.Sweeping.{Agrees, HasSwept, IsFirstMiscount}
 use Rattle.kc_claims.specs.Judging.{AreCounted, HasLookedFor, TellLines}
@@ -29,8 +27,8 @@ pub HasInsisted-stays : (start old : Insisting) (before lines : List ℕ) (f : F
 HasInsisted-stays start old before lines f ended h is = record {
   first =
       is
-      ∙ sym (ap (first_line_fault start.sweep.ids.items 0 None) (said-append before lines ended)
-      ∙ faulty-append start.sweep.ids.items 0 None (all_said before) (all_said lines) f (sym h.first ∙ is));
+      ∙ sym (ap (first_line_fault start.sweep.ids.items 0 start.last) (said-append before lines ended)
+      ∙ faulty-append start.sweep.ids.items 0 start.last (all_said before) (all_said lines) f (sym h.first ∙ is));
   followed = λ none. absurd (let e : Some f ≡ None = sym is ∙ none in cc);
 }
 
@@ -39,18 +37,24 @@ module _ (start old now : Insisting) (before lines : List ℕ) (ended : EndsLine
   f : HasFollowed start old before
   f = h.followed clean
 
+  -- the ids are those of the beginning
+  same-ids : old.sweep.ids ≡ start.sweep.ids
+  same-ids =
+      let (first, earlier, ends, swept) = f.begun in
+      (f.swept first earlier ends swept).counted.ids ∙ sym swept.counted.ids
+
   -- what is first wrong in all lines is so in those that came
-  pub first-of-all : first_line_fault start.sweep.ids.items 0 None (all_said (before ++ lines))
+  pub first-of-all : first_line_fault start.sweep.ids.items 0 start.last (all_said (before ++ lines))
       ≡ first_line_fault old.sweep.ids.items old.lines old.last (all_said lines)
   first-of-all =
       let ids : List ℕ = start.sweep.ids.items in
       let said : List TextLine = all_said lines in
-      ap (first_line_fault ids 0 None) (said-append before lines ended)
-      ∙ clean-append ids 0 None (all_said before) said (sym h.first ∙ clean)
-      ∙ ap (λ n. first_line_fault ids n (last_pair None (all_said before)) said)
+      ap (first_line_fault ids 0 start.last) (said-append before lines ended)
+      ∙ clean-append ids 0 start.last (all_said before) said (sym h.first ∙ clean)
+      ∙ ap (λ n. first_line_fault ids n (last_pair start.last (all_said before)) said)
       (let e : 0 + length (all_said before) ≡ old.lines = omega (arith, f.lines) in e)
       ∙ ap (λ last. first_line_fault ids old.lines last said) (sym f.last)
-      ∙ ap (λ (v : Vec ℕ Global). first_line_fault v.items old.lines old.last said) (sym f.swept.counted.ids)
+      ∙ ap (λ (v : Vec ℕ Global). first_line_fault v.items old.lines old.last said) (sym same-ids)
 
   -- a line that came is wrong
   pub HasInsisted-faulty : (wrong : FaultyLine) → first_line_fault old.sweep.ids.items old.lines old.last (all_said lines) ≡ Some wrong
@@ -62,16 +66,19 @@ module _ (start old now : Insisting) (before lines : List ℕ) (ended : EndsLine
 
   -- none of the lines that came is wrong, and all their edges were counted
   pub HasInsisted-followed : first_line_fault old.sweep.ids.items old.lines old.last (all_said lines) ≡ None → now.fault ≡ None
-      → HasSwept start.sweep now.sweep (before ++ lines) → now.lines ≡ old.lines + length (all_said lines)
-      → now.last ≡ last_pair old.last (all_said lines) → HasInsisted start now (before ++ lines)
+      → ((first : Sweep) (earlier : List ℕ) → EndsLine earlier → HasSwept first old.sweep earlier → HasSwept first now.sweep (earlier ++ lines))
+      → now.lines ≡ old.lines + length (all_said lines) → now.last ≡ last_pair old.last (all_said lines) → HasInsisted start now (before ++ lines)
   HasInsisted-followed none told swept count last = record {
     first = told ∙ sym (first-of-all ∙ none);
     followed = λ _. record {
-      swept = swept;
+      begun = f.begun;
+      swept = λ first earlier ends h.
+          subst (HasSwept first now.sweep) (append_assoc earlier before lines)
+          (swept first (earlier ++ before) (ends-append earlier before ends ended) (f.swept first earlier ends h));
       lines = omega (arith, count, f.lines, ap length (said-append before lines ended), length-append (all_said before) (all_said lines));
       last =
-          last ∙ ap (λ p. last_pair p (all_said lines)) f.last ∙ sym (last_pair-append None (all_said before) (all_said lines))
-          ∙ sym (ap (last_pair None) (said-append before lines ended));
+          last ∙ ap (λ p. last_pair p (all_said lines)) f.last ∙ sym (last_pair-append start.last (all_said before) (all_said lines))
+          ∙ sym (ap (last_pair start.last) (said-append before lines ended));
     };
   }
 
@@ -85,56 +92,31 @@ IsCountFault-miscount claims order later supporters (ManyLater claim count) firs
 IsCountFault-miscount claims order later supporters (FewSupporters claim count) first = first
 
 module _ (claims : List Claim) (order : List ℕ) (now : Insisting) (known : Option (List ℕ)) (h : HasInsistedFor claims order now known) where
-  -- where no line is wrong, all edges of the stream were counted
-  pub swept-all : now.fault ≡ None → IsFedWith HasSwept h.sweep now.sweep known GRAPH.bytes
-  swept-all none = record {
-    text = h.fed.text;
-    read = h.fed.read;
-    few = h.fed.few;
-    took = subst (λ (s : Sweep). HasSwept s now.sweep h.fed.text) h.same_sweep (h.fed.took.followed none).swept;
-  }
+  -- the claims are a certificate
+  pub certified-ascending : ((i : ℕ) → i < length claims → Agrees claims order now.sweep.later.items now.sweep.supporters.items i)
+      → ((i : ℕ) → i < length claims → HasCount now.sweep.later.items now.sweep.supporters.items (at order i))
+      → HoldsOfStream (λ ids g. AreCertificate ids g claims × TellCoreNumbers ids g claims) known
+  certified-ascending agree counted =
+      certified-stream claims order h.sweep h.begun now.sweep known h.fed
+      (met-claims claims order h.sweep h.begun now.sweep known h.fed counted) agree
 
-  -- the first line that is wrong is one of a stream for the claims
-  pub HasFaultyLine-kept : (wrong : FaultyLine) → now.fault ≡ Some wrong → HasFaultyLine claims known wrong
-  HasFaultyLine-kept wrong is = record {
-    text = h.fed.text;
-    read = h.fed.read;
-    ids = h.sweep.ids.items;
-    order = order;
-    core = h.sweep.core.items;
-    rank = h.sweep.rank.items;
-    ascending = h.begun.swept.counted.ascending;
-    told = h.begun.told;
-    first =
-        ap (λ (s : Sweep). first_line_fault s.ids.items 0 None (all_said h.fed.text)) (sym h.same_sweep) ∙ sym h.fed.took.first ∙ is;
-  }
+  -- they are none
+  pub faulty-ascending : (fault : ClaimFault) → IsCountFault claims order now.sweep.later.items now.sweep.supporters.items fault
+      → IsFaultOfStream claims fault known
+  faulty-ascending (Unknown claim) (agree, first) = unknown-stream claims order h.sweep h.begun now.sweep known h.fed claim agree first
+  faulty-ascending (Repeated claim) first = absurd first
+  faulty-ascending (Missing id) first = absurd first
+  faulty-ascending (ManyLater claim count) first = faulty-ids claims order h.sweep h.begun now.sweep known h.fed (ManyLater claim count) first
+  faulty-ascending (FewSupporters claim count) first =
+      faulty-ids claims order h.sweep h.begun now.sweep known h.fed (FewSupporters claim count) first
 
-  module _ (none : now.fault ≡ None) where
-    -- the claims are a certificate
-    pub certified-ascending : ((i : ℕ) → i < length claims → Agrees claims order now.sweep.later.items now.sweep.supporters.items i)
-        → ((i : ℕ) → i < length claims → HasCount now.sweep.later.items now.sweep.supporters.items (at order i))
-        → HoldsOfStream (λ ids g. AreCertificate ids g claims × TellCoreNumbers ids g claims) known
-    certified-ascending agree counted =
-        certified-stream claims order h.sweep h.begun now.sweep known (swept-all none)
-        (met-claims claims order h.sweep h.begun now.sweep known (swept-all none) counted) agree
-
-    -- they are none
-    pub faulty-ascending : (fault : ClaimFault) → IsCountFault claims order now.sweep.later.items now.sweep.supporters.items fault
-        → IsFaultOfStream claims fault known
-    faulty-ascending (Unknown claim) (agree, first) = unknown-stream claims order h.sweep h.begun now.sweep known (swept-all none) claim agree first
-    faulty-ascending (Repeated claim) first = absurd first
-    faulty-ascending (Missing id) first = absurd first
-    faulty-ascending (ManyLater claim count) first = faulty-ids claims order h.sweep h.begun now.sweep known (swept-all none) (ManyLater claim count) first
-    faulty-ascending (FewSupporters claim count) first =
-        faulty-ids claims order h.sweep h.begun now.sweep known (swept-all none) (FewSupporters claim count) first
-
--- where no line is wrong, the sweep has a count of each kind for each vertex of the claims
+-- the sweep has a count of each kind for each vertex of the claims
 pub AreCounted-looked : (claims : List Claim) (order : List ℕ) (now : Insisting) (lines : ClaimLines) (known : Option (List ℕ))
-    → HasLookedFor claims order now lines known → now.fault ≡ None → AreCounted claims order now.sweep lines
-AreCounted-looked claims order now lines known h none =
-    let counted = (swept-all claims order now known h.insisted none).took.counted in
+    → HasLookedFor claims order now lines known → AreCounted claims order now.sweep lines
+AreCounted-looked claims order now lines known h =
+    let counted = h.insisted.fed.took.counted in
     record {
-      told = told-counted claims order h.insisted.sweep h.insisted.begun now.sweep known (swept-all claims order now known h.insisted none);
+      told = told-counted claims order h.insisted.sweep h.insisted.begun now.sweep known h.insisted.fed;
       stand = subst (λ (v : Vec ℕ Global). TellLines claims order v.items lines) (sym counted.rank) h.stand;
       later_each = counted.tally.later_each;
       supporters_each = counted.tally.supporters_each;

@@ -11,6 +11,7 @@ pub mod Counted
 pub mod Streamed
 pub mod LineFaulting
 pub mod Insisted
+pub mod Pieced
 pub mod Gathered
 pub mod Placed
 pub mod Judged

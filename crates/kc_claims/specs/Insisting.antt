@@ -1,7 +1,8 @@
 -- What is kept while lines of a stream are looked at that are to ascend.
-use Rattle.std.specs.Prelude.{◌≡◌, ◌<◌, ◌⊎◌, ℕ, List, None, Option, length}
+use Rattle.std.specs.Prelude.{◌≡◌, ◌<◌, ◌⊎◌, ◌++◌, ℕ, List, None, Option, length}
 use Rattle.kc_graph.specs.Peeling.{at}
 use Rattle.kc_text.specs.Forms.{all_said}
+use Rattle.kc_text.specs.Lines.{EndsLine}
 use Rattle.kc_text.specs.declared.limits.TheConstants.Limits.{GRAPH}
 use Rattle.kc_claims.specs.Certificates.{claim_at}
 use Rattle.kc_claims.specs.Feeding.{IsFedWith}
@@ -13,15 +14,17 @@ use Rattle.kc_claims.specs.declared.fault.ClaimFault.TheVariants.{Unknown, Repea
 use Rattle.kc_claims.specs.declared.insisting.Insisting.{Insisting}
 use Rattle.kc_claims.specs.declared.sweep.Sweep.{Sweep}
 
--- no line of these bytes is wrong: their edges were counted, and their lines too
+-- No line of these bytes is wrong, which came behind others that had been swept. Their edges were counted too, and so were their lines.
 pub record HasFollowed (start now : Insisting) (text : List ℕ) : Type 0 where
-  pub swept : HasSwept start.sweep now.sweep text
+  pub begun : (first : Sweep) × (earlier : List ℕ) × EndsLine earlier × HasSwept first start.sweep earlier
+  pub swept : (first : Sweep) (earlier : List ℕ) → EndsLine earlier → HasSwept first start.sweep earlier
+      → HasSwept first now.sweep (earlier ++ text)
   pub lines : now.lines ≡ length (all_said text)
-  pub last : now.last ≡ last_pair None (all_said text)
+  pub last : now.last ≡ last_pair start.last (all_said text)
 
 -- these bytes were looked at: the first line of them that is wrong is kept, and where none is they were followed
 pub record HasInsisted (start now : Insisting) (text : List ℕ) : Type 0 where
-  pub first : now.fault ≡ first_line_fault start.sweep.ids.items 0 None (all_said text)
+  pub first : now.fault ≡ first_line_fault start.sweep.ids.items 0 start.last (all_said text)
   pub followed : now.fault ≡ None → HasFollowed start now text
 
 -- something is counted of a vertex, so it has an edge
@@ -46,10 +49,11 @@ IsCountFault claims order later supporters (Missing id) = ⊥
 IsCountFault claims order later supporters (ManyLater claim count) = IsFirstMiscount claims order later supporters (ManyLater claim count)
 IsCountFault claims order later supporters (FewSupporters claim count) = IsFirstMiscount claims order later supporters (FewSupporters claim count)
 
--- all bytes of a stream, which are all of what is known of them, were looked at, from where a sweep had begun for what claims tell
+-- All bytes of a stream, which are all of what is known of them, were looked at, from where a sweep had begun for what claims tell. No line is wrong.
 pub record HasInsistedFor (claims : List Claim) (order : List ℕ) (now : Insisting) (known : Option (List ℕ)) : Type 0 where
   pub sweep : Sweep
   pub begun : HasBegunFor claims order sweep
-  pub start : Insisting
-  pub same_sweep : start.sweep ≡ sweep
-  pub fed : IsFedWith HasInsisted start now known GRAPH.bytes
+  pub fed : IsFedWith HasSwept sweep now.sweep known GRAPH.bytes
+  pub clean : first_line_fault sweep.ids.items 0 None (all_said fed.text) ≡ None
+  pub last : now.last ≡ last_pair None (all_said fed.text)
+  pub fresh : now.fault ≡ None

@@ -2,6 +2,7 @@
 pub mod Certificates
 pub mod Claims
 pub mod LineFaults
+pub mod Pieces
 pub mod Streams
 pub mod Stretches
 pub mod Tables

@@ -1,78 +1,170 @@
 //! Whether claims are a certificate of the core numbers of a graph whose edges have to come as an ascending stream.
-ghost use Rattle.std.specs.Prelude.{◌≡◌, ◌≢◌, ℕ, Err, IfErr, IfOk, IfSome, IsErrOf, List, None, Option, Some};
+ghost use Rattle.std.specs.Prelude.{◌≡◌, ◌≢◌, ℕ, [], Err, IfOk, IfSome, IsErrOf, List, None, Option, Some};
 ghost use Rattle.kc_io.specs.Causes.{Rose};
 ghost use Rattle.kc_claims.specs.Certificates.{AreCertificate, TellCoreNumbers};
-ghost use Rattle.kc_claims.specs.Judging.{AreClaimed, HasLookedFor};
+ghost use Rattle.kc_claims.specs.Judging.{AreClaimed};
 ghost use Rattle.kc_claims.specs.LineFaults.{HasFaultyLine};
+ghost use Rattle.kc_claims.specs.Pieces.{HasFaultyPiece, HasTakenText, with_piece};
 ghost use Rattle.kc_claims.specs.Streams.{HoldsOfStream, IsFaultOfStream};
 ghost use Rattle.kc_claims.specs.Tables.{AreTabled};
 ghost use Rattle.kc_claims.specs.declared.claim.Claim.{Claim};
+ghost use Rattle.kc_claims.specs.declared.fault.ClaimFault.{ClaimFault};
 ghost use Rattle.kc_claims.specs.declared.fault.FaultyLine.{FaultyLine};
 
 use crate::claimed::{ClaimLines, Claimed, begin_table};
-use crate::fault::{CheckFault, ClaimFault, LineFault, StreamFault, Unswept};
-use crate::feeding::feed_all;
+use crate::fault::{CheckFault, ClaimFault, FaultyLine, LineFault, StreamFault, Unswept};
+use crate::feeding::feed_within;
 use crate::insisting::Insisting;
 use crate::judging::fault_by_counts;
 use crate::table::ClaimTable;
 use kc_io::source::Source;
+use kc_text::Limits;
 use std::alloc::Global;
 
-/// What is wrong with the claims, once all of a stream was looked at.
-fn judge(insisting: &Insisting, lines: &ClaimLines) -> Result<Option<ClaimFault>, StreamFault>
-    requires { (claims : List Claim) × (order : List ℕ) × (known : Option (List ℕ)) × HasLookedFor claims order insisting.now lines.now known }
-    ensures certified { (claims : List Claim) (order : List ℕ) (known : Option (List ℕ)) → HasLookedFor claims order insisting.now lines.now known
-        → IfOk result (λ found. found ≡ None
-        → HoldsOfStream (λ ids g. AreCertificate ids g claims × TellCoreNumbers ids g claims) known) }
-    ensures faulty { (claims : List Claim) (order : List ℕ) (known : Option (List ℕ)) → HasLookedFor claims order insisting.now lines.now known
-        → IfOk result (λ found. IfSome found (λ fault. IsFaultOfStream claims fault known)) }
-    ensures line { (claims : List Claim) (order : List ℕ) (known : Option (List ℕ)) (faulty : FaultyLine)
-        → HasLookedFor claims order insisting.now lines.now known → IsErrOf result (StreamFault.Line faulty) → HasFaultyLine claims known faulty }
+/// A check of claims for an ascending stream that comes in pieces, one after another. Each begins a line, and the last line of each may have no
+/// line end. So the text of several files is that of the stream, if they are taken in the order of their edges.
+///
+/// # Example
+///
+/// ```rust
+/// use kc_claims::{AscendingCheck, claims_from};
+/// use kc_io::mem_source::MemSource;
+///
+/// let text = Vec::from_slice(alloc, b"7 2\n8 2\n9 2\n")?;
+/// let mut certificate = MemSource::new(text, 4, Vec::new(alloc)); // four bytes at a time
+/// let claims = claims_from(alloc, &mut certificate)?;
+/// let mut check = AscendingCheck::begin(alloc, claims)?;
+/// let mut first = MemSource::new(Vec::from_slice(alloc, b"7 8\n7 9")?, 4, Vec::new(alloc));
+/// let mut second = MemSource::new(Vec::from_slice(alloc, b"8 9\n")?, 4, Vec::new(alloc));
+/// let wrong = check.take(alloc, &mut first)?; // None
+/// let wrong = check.take(alloc, &mut second)?; // None
+/// let fault = check.verdict(); // None: these are the core numbers
+/// ```
+#[derive(Drop)]
+pub struct AscendingCheck {
+    pub(crate) insisting: Insisting,
+    pub(crate) lines: ClaimLines,
+    /// How many bytes there may be still.
+    pub(crate) room: usize,
+}
+
+/// What is told of the first line that is wrong, if there is one: the id that it names and no claim does, or else the line.
+fn told_of(fault: Option<FaultyLine>) -> Result<Option<u32>, StreamFault>
+    ensures clean { IfOk result (λ found. found ≡ None → fault ≡ None) }
+    ensures unclaimed { IfOk result (λ found. IfSome found (λ id. (line : ℕ) × (fault ≡ Some (record { line = line; fault = LineFault.Unclaimed id })))) }
+    ensures line { (faulty : FaultyLine) → IsErrOf result (StreamFault.Line faulty) → fault ≡ Some faulty }
     ensures unread { result ≢ Err StreamFault.ReadFault }
 {
-    let Some(faulty) = insisting.fault else {
-        return Ok(fault_by_counts(&insisting.sweep, lines));
+    let Some(faulty) = fault else {
+        return Ok(None);
     };
     match faulty.fault {
-        LineFault::Unclaimed(id) => Ok(Some(ClaimFault::Missing(id))),
+        LineFault::Unclaimed(id) => Ok(Some(id)),
         _ => Err(StreamFault::Line(faulty)),
     }
 }
 
-/// What is told of claims of which one is at fault before the stream is read: it repeats an id.
-fn repeated(fault: ClaimFault) -> Result<Option<ClaimFault>, StreamFault>
-    ensures found { IfOk result (λ found. (claim : Claim) × (found ≡ Some (ClaimFault.Repeated claim)) × (fault ≡ ClaimFault.Repeated claim)) }
-    ensures else_none { IfErr result (λ e. e ≡ StreamFault.NoMemory) }
-{
-    match fault {
-        ClaimFault::Repeated(claim) => Ok(Some(ClaimFault::Repeated(claim))),
-        _ => Err(StreamFault::NoMemory),
+impl AscendingCheck {
+    /// Nothing was taken.
+    fn new(claimed: Claimed) -> AscendingCheck
+        ensures { (claims : List Claim) (order : List ℕ) → AreClaimed claims order claimed → HasTakenText claims (Some []) result }
+    {
+        let Claimed { sweep, lines } = claimed;
+        AscendingCheck {
+            insisting: Insisting::new(sweep),
+            lines,
+            room: Limits::GRAPH.bytes,
+        }
+    }
+
+    /// Begins the check of claims, before any piece was taken. They are at fault where they name an id twice. With the claims it takes 25 bytes a
+    /// vertex, and half a byte more where the ids are no row.
+    pub fn begin(alloc: Global, table: ClaimTable) -> Result<AscendingCheck, CheckFault>
+        requires { (claims : List Claim) × AreTabled claims table }
+        ensures begun { (claims : List Claim) → AreTabled claims table → IfOk result (HasTakenText claims (Some [])) }
+        ensures faulty { (claims : List Claim) (fault : ClaimFault) (known : Option (List ℕ)) → AreTabled claims table
+            → IsErrOf result (CheckFault.Faulty fault) → IsFaultOfStream claims fault known }
+    {
+        match begin_table(alloc, table) {
+            Ok(claimed) => Ok(AscendingCheck::new(claimed)),
+            Err(CheckFault::Faulty(ClaimFault::Repeated(claim))) => {
+                Err(CheckFault::Faulty(ClaimFault::Repeated(claim)))
+            }
+            Err(_) => Err(CheckFault::NoMemory),
+        }
+    }
+
+    /// Takes all that a source has left as the next piece, in a buffer of 64 KiB. `None` comes where no line of it is wrong. `Some` tells the id of
+    /// the first line that is wrong, where there is no claim of it: so the claims are no certificate.
+    ///
+    /// `Line` tells the first line of the piece that is wrong otherwise: it is no line of a graph without batches, or its edge does not ascend. Its
+    /// number is that within the piece. `ReadFault` comes where the source fails, and `NoMemory` where there is none, or where there are more than
+    /// 2^40 edges or 2^63 - 1 bytes, with one for each piece. After `Some` and after an error nothing more can be taken.
+    pub fn take<S: Source>(
+        &mut self,
+        alloc: Global,
+        source: &mut S,
+    ) -> Result<Option<u32>, StreamFault>
+        requires { (claims : List Claim) × (before : Option (List ℕ)) × HasTakenText claims before self.old }
+        ensures taken { (claims : List Claim) (before : Option (List ℕ)) → HasTakenText claims before self.old
+            → IfOk result (λ found. found ≡ None → HasTakenText claims (with_piece before (S.left source.old)) self.new) }
+        ensures unclaimed { (claims : List Claim) (before : Option (List ℕ)) → HasTakenText claims before self.old
+            → IfOk result (λ found. IfSome found (λ id. IsFaultOfStream claims (ClaimFault.Missing id) (with_piece before (S.left source.old)))) }
+        ensures line { (claims : List Claim) (before : Option (List ℕ)) (faulty : FaultyLine) → HasTakenText claims before self.old
+            → IsErrOf result (StreamFault.Line faulty) → HasFaultyPiece claims before (S.left source.old) faulty }
+        ensures failed { IsErrOf result StreamFault.ReadFault → Rose (S.faults source.old) (S.faults source.new) }
+        ensures faultless { result ≢ Err StreamFault.ReadFault → S.faults source.new ≡ S.faults source.old }
+    {
+        if self.room == 0 {
+            return Err(StreamFault::NoMemory);
+        }
+        let room = self.room - 1;
+        self.insisting.begin_text();
+        match feed_within(alloc, source, &mut self.insisting, room) {
+            Ok(left) => {
+                self.room = left;
+                told_of(self.insisting.fault)
+            }
+            Err(Unswept::ReadFault) => Err(StreamFault::ReadFault),
+            Err(Unswept::Unfit) => Err(StreamFault::NoMemory),
+            Err(Unswept::NoMemory) => Err(StreamFault::NoMemory),
+        }
+    }
+
+    /// What shows that the claims are no certificate of the graph of all pieces that were taken. `None` comes where they are one. Else it is the
+    /// first claim with too many neighbours behind its id or too few others, or the first claim of an id that no line names.
+    pub fn verdict(&self) -> Option<ClaimFault>
+        requires { (claims : List Claim) × (known : Option (List ℕ)) × HasTakenText claims known self.now }
+        ensures certified { (claims : List Claim) (known : Option (List ℕ)) → HasTakenText claims known self.now → result ≡ None
+            → HoldsOfStream (λ ids g. AreCertificate ids g claims × TellCoreNumbers ids g claims) known }
+        ensures faulty { (claims : List Claim) (known : Option (List ℕ)) → HasTakenText claims known self.now
+            → IfSome result (λ fault. IsFaultOfStream claims fault known) }
+    {
+        fault_by_counts(&self.insisting.sweep, &self.lines)
     }
 }
 
-/// Looks all of a stream through, and tells what is wrong with the claims for which the sweep had begun.
-fn insist<S: Source>(
+/// Takes all of a stream, and tells what is wrong with the claims.
+fn judge<S: Source>(
     alloc: Global,
-    claimed: Claimed,
+    check: AscendingCheck,
     source: &mut S,
 ) -> Result<Option<ClaimFault>, StreamFault>
-    requires { (claims : List Claim) × (order : List ℕ) × AreClaimed claims order claimed }
-    ensures certified { (claims : List Claim) (order : List ℕ) → AreClaimed claims order claimed → IfOk result (λ found. found ≡ None
+    requires { (claims : List Claim) × HasTakenText claims (Some []) check }
+    ensures certified { (claims : List Claim) → HasTakenText claims (Some []) check → IfOk result (λ found. found ≡ None
         → HoldsOfStream (λ ids g. AreCertificate ids g claims × TellCoreNumbers ids g claims) (S.left source.old)) }
-    ensures faulty { (claims : List Claim) (order : List ℕ) → AreClaimed claims order claimed
+    ensures faulty { (claims : List Claim) → HasTakenText claims (Some []) check
         → IfOk result (λ found. IfSome found (λ fault. IsFaultOfStream claims fault (S.left source.old))) }
-    ensures line { (claims : List Claim) (order : List ℕ) (faulty : FaultyLine) → AreClaimed claims order claimed
+    ensures line { (claims : List Claim) (faulty : FaultyLine) → HasTakenText claims (Some []) check
         → IsErrOf result (StreamFault.Line faulty) → HasFaultyLine claims (S.left source.old) faulty }
     ensures failed { IsErrOf result StreamFault.ReadFault → Rose (S.faults source.old) (S.faults source.new) }
     ensures faultless { result ≢ Err StreamFault.ReadFault → S.faults source.new ≡ S.faults source.old }
 {
-    let Claimed { sweep, lines } = claimed;
-    let mut insisting = Insisting::new(sweep);
-    match feed_all(alloc, source, &mut insisting) {
-        Ok(()) => judge(&insisting, &lines),
-        Err(Unswept::ReadFault) => Err(StreamFault::ReadFault),
-        Err(Unswept::Unfit) => Err(StreamFault::NoMemory),
-        Err(Unswept::NoMemory) => Err(StreamFault::NoMemory),
+    let mut check = check;
+    match check.take(alloc, source) {
+        Ok(None) => Ok(check.verdict()),
+        Ok(Some(id)) => Ok(Some(ClaimFault::Missing(id))),
+        Err(fault) => Err(fault),
     }
 }
 
@@ -87,7 +179,7 @@ fn insist<S: Source>(
 /// claim of an id that no line names.
 ///
 /// `Line` tells the first line that is wrong otherwise: it is no line of a graph without batches, or its edge does not ascend. `ReadFault` comes
-/// where the source fails. `NoMemory` comes where there is none, and where there are more than 2^40 edges, 2^32 - 2 claims or 2^63 - 1 bytes.
+/// where the source fails. `NoMemory` comes where there is none, and where there are more than 2^40 edges, 2^32 - 2 claims or 2^63 - 2 bytes.
 ///
 /// # Example
 ///
@@ -117,9 +209,9 @@ pub fn check_ascending<S: Source>(
     ensures failed { IsErrOf result StreamFault.ReadFault → Rose (S.faults source.old) (S.faults source.new) }
     ensures faultless { result ≢ Err StreamFault.ReadFault → S.faults source.new ≡ S.faults source.old }
 {
-    match begin_table(alloc, table) {
-        Ok(claimed) => insist(alloc, claimed, source),
-        Err(CheckFault::Faulty(fault)) => repeated(fault),
+    match AscendingCheck::begin(alloc, table) {
+        Ok(check) => judge(alloc, check, source),
+        Err(CheckFault::Faulty(fault)) => Ok(Some(fault)),
         Err(CheckFault::NoMemory) => Err(StreamFault::NoMemory),
     }
 }

@@ -1,5 +1,5 @@
 //! Hands on the lines of a source in pieces, so that its text is never held.
-ghost use Rattle.std.specs.Prelude.{◌≡◌, ◌≢◌, ◌<◌, ◌++◌, ℕ, List, [], Err, IfOk, IsErrOf, OnOk, length};
+ghost use Rattle.std.specs.Prelude.{◌≡◌, ◌≢◌, ◌≤◌, ◌<◌, ◌-◌, ◌++◌, ℕ, List, [], Err, IfOk, IsErrOf, OnOk, length};
 ghost use Rattle.std.specs.Io.KnownBytes.{Consumes, IsAtEnd};
 ghost use Rattle.kc_io.specs.Causes.{Rose};
 ghost use Rattle.kc_text.specs.Lines.{EndsLine};
@@ -105,21 +105,22 @@ fn take_last<T: TakesLines>(carry: &[u8], taker: &mut T) -> Result<(), Unswept>
     }
 }
 
-/// Hands on all lines of a source, in pieces that fill the room or less.
+/// Hands on all lines of a source, in pieces that fill the room or less. Gives how many bytes are left of the most that there may be.
 fn feed_pieces<S: Source, T: TakesLines>(
     source: &mut S,
     room: &mut [u8],
     carry: &mut Vec<u8>,
     taker: &mut T,
-) -> Result<(), Unswept>
+    most: usize,
+) -> Result<usize, Unswept>
     requires room { 0 < length room.old }
     requires none { carry.old.items ≡ [] }
     requires fresh { T.taken taker.old taker.old [] }
-    ensures fed { OnOk result (IsFedWith T.taken taker.old taker.new (S.left source.old) GRAPH.bytes) }
+    ensures fed { IfOk result (λ left. (left ≤ most) × IsFedWith T.taken taker.old taker.new (S.left source.old) (most - left)) }
     ensures failed { IsErrOf result Unswept.ReadFault → Rose (S.faults source.old) (S.faults source.new) }
     ensures faultless { result ≢ Err Unswept.ReadFault → S.faults source.new ≡ S.faults source.old }
 {
-    let mut left = Limits::GRAPH.bytes;
+    let mut left = most;
     loop {
         let n = feed_next(source, room, carry, taker)?;
         if left < n {
@@ -127,10 +128,28 @@ fn feed_pieces<S: Source, T: TakesLines>(
         }
         if n == 0 {
             take_last(carry, taker)?;
-            return Ok(());
+            return Ok(left);
         }
         left -= n;
     }
+}
+
+/// Hands on all lines of a source, of which there are to be no more bytes than these. Gives how many are left of them.
+pub(crate) fn feed_within<S: Source, T: TakesLines>(
+    alloc: Global,
+    source: &mut S,
+    taker: &mut T,
+    most: usize,
+) -> Result<usize, Unswept>
+    requires { T.taken taker.old taker.old [] }
+    ensures fed { IfOk result (λ left. (left ≤ most) × IsFedWith T.taken taker.old taker.new (S.left source.old) (most - left)) }
+    ensures failed { IsErrOf result Unswept.ReadFault → Rose (S.faults source.old) (S.faults source.new) }
+    ensures faultless { result ≢ Err Unswept.ReadFault → S.faults source.new ≡ S.faults source.old }
+{
+    let mut room = vec![in alloc; 0u8; PIECE_BYTES]?;
+    let mut carry = Vec::new(alloc);
+    let left = feed_pieces(source, &mut room, &mut carry, taker, most)?;
+    Ok(left)
 }
 
 /// Hands on all lines of a source. They may be as long as the text of a graph.
@@ -144,8 +163,8 @@ pub(crate) fn feed_all<S: Source, T: TakesLines>(
     ensures failed { IsErrOf result Unswept.ReadFault → Rose (S.faults source.old) (S.faults source.new) }
     ensures faultless { result ≢ Err Unswept.ReadFault → S.faults source.new ≡ S.faults source.old }
 {
-    let mut room = vec![in alloc; 0u8; PIECE_BYTES]?;
-    let mut carry = Vec::new(alloc);
-    feed_pieces(source, &mut room, &mut carry, taker)?;
-    Ok(())
+    match feed_within(alloc, source, taker, Limits::GRAPH.bytes) {
+        Ok(_) => Ok(()),
+        Err(fault) => Err(fault),
+    }
 }

@@ -3,6 +3,7 @@ ghost use Rattle.std.specs.Prelude.{◌≡◌, ◌++◌, ℕ, List, [], None, On
 ghost use Rattle.kc_text.specs.Lines.{EndsLine};
 ghost use Rattle.kc_claims.specs.Insisting.{HasInsisted};
 ghost use Rattle.kc_claims.specs.Sweeping.{HasSwept};
+ghost use Rattle.kc_claims.specs.declared.sweep.Sweep.{Sweep};
 
 use crate::fault::{FaultyLine, Untaken};
 use crate::feeding::TakesLines;
@@ -13,10 +14,10 @@ use crate::sweep::Sweep;
 #[derive(Drop)]
 pub(crate) struct Insisting {
     pub(crate) sweep: Sweep,
-    /// How many lines came, if none is wrong.
+    /// How many lines came of the text that is looked at, if none is wrong.
     lines: u64,
     /// The pair that came last, if no line is wrong.
-    last: Option<(u32, u32)>,
+    pub(crate) last: Option<(u32, u32)>,
     /// The first line that is wrong.
     pub(crate) fault: Option<FaultyLine>,
 }
@@ -24,9 +25,9 @@ pub(crate) struct Insisting {
 impl Insisting {
     /// No line came.
     pub(crate) fn new(sweep: Sweep) -> Insisting
-        requires { HasSwept sweep sweep [] }
-        ensures fresh { HasInsisted result result [] }
         ensures sweep { result.sweep ≡ sweep }
+        ensures last { result.last ≡ None }
+        ensures clean { result.fault ≡ None }
     {
         Insisting {
             sweep,
@@ -34,6 +35,17 @@ impl Insisting {
             last: None,
             fault: None,
         }
+    }
+
+    /// Begins a text behind one that ended with a line: its lines are counted from 1.
+    pub(crate) fn begin_text(&mut self)
+        requires clean { self.old.fault ≡ None }
+        requires swept { (first : Sweep) × (earlier : List ℕ) × EndsLine earlier × HasSwept first self.old.sweep earlier }
+        ensures begun { HasInsisted self.new self.new [] }
+        ensures sweep { self.new.sweep ≡ self.old.sweep }
+        ensures last { self.new.last ≡ self.old.last }
+    {
+        self.lines = 0;
     }
 
     /// Looks lines through, and counts their edges where none is wrong.

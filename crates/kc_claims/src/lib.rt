@@ -42,7 +42,7 @@ ghost use Rattle.kc_claims.specs.Certificates.{AreCertificate, IsFirstFault};
 ghost use Rattle.kc_claims.specs.declared.claim.Claim.{Claim};
 ghost use Rattle.kc_claims.specs.declared.fault.ClaimFault.{ClaimFault};
 
-pub use ascending::check_ascending;
+pub use ascending::{AscendingCheck, check_ascending};
 pub use checking::check_claims;
 pub use claim::Claim;
 pub use fault::{

@@ -1,44 +1,40 @@
--- A line is wrong, or all of the stream was counted.
-use Rattle.std.proofs.Common.{◌≡◌, ◌∙◌, ℕ, List, Option, Some, ap, is_none, subst}
-use Rattle.kc_claims.specs.Insisting.{IsCountFault}
-use Rattle.kc_claims.specs.LineFaults.{HasFaultyLine}
-use Rattle.kc_claims.specs.Streams.{IsFaultOfStream}
+-- The stream is one piece, and what is told of the piece is told of it.
+use Rattle.std.proofs.Common.{◌≡◌, [], Err, List, None, Option, Some, ℕ, ap, subst}
+use Rattle.kc_claims.specs.Certificates.{AreCertificate, TellCoreNumbers}
+use Rattle.kc_claims.specs.Pieces.{with_piece}
+use Rattle.kc_claims.specs.Streams.{HoldsOfStream, IsFaultOfStream}
 use Rattle.kc_claims.specs.declared.fault.ClaimFault.{ClaimFault}
-use Rattle.kc_claims.specs.declared.fault.FaultyLine.{FaultyLine}
-use Rattle.kc_claims.specs.declared.fault.LineFault.TheVariants as wrong
-use Rattle.kc_claims.proofs.Insisted.{AreCounted-looked, HasFaultyLine-kept, certified-ascending, faulty-ascending}
+use Rattle.kc_claims.specs.declared.fault.ClaimFault.TheVariants as claim_fault
+use Rattle.kc_claims.specs.declared.fault.StreamFault.TheVariants as stream
+use Rattle.kc_claims.proofs.Pieced.{HasFaultyLine-piece, one-piece}
 use Rattle.kc_claims.proofs.Streamed.{some-weaker}
 use Rattle.kc_claims.proofs.ascending.judge.Goals as goal
 
-pub fault_by_counts-requires : goal.fault_by_counts-requires
-fault_by_counts-requires c =
-    let (claims, order, known, h) = c.requires in
-    (claims, order, AreCounted-looked claims order c.args.insisting.now c.args.lines.now known h c.in_default.is)
+pub verdict-requires : goal.verdict-requires
+verdict-requires g c =
+    let (claims, h) = c.requires in
+    (claims, with_piece (Some []) (g.S.Source.left c.args.source.now), c.in-Ok-None.ensures.taken claims (Some []) h c.in-Ok-None.field-0-is)
 
-pub returns-in_default-clause-certified : goal.returns-in_default-clause-certified
-returns-in_default-clause-certified c = λ claims order known h none.
-    let counted = AreCounted-looked claims order c.args.insisting.now c.args.lines.now known h c.in_default.is in
-    certified-ascending claims order c.args.insisting.now known h.insisted c.in_default.is
-    (c.fault_by_counts.ensures.agree claims order counted (ap is_none none)) (c.fault_by_counts.ensures.counted claims order counted (ap is_none none))
+pub returns-in-Ok-None-clause-certified : goal.returns-in-Ok-None-clause-certified
+returns-in-Ok-None-clause-certified g c = λ claims h none.
+    let left = g.S.Source.left c.args.source.now in
+    subst (λ (k : Option (List ℕ)). HoldsOfStream (λ ids g. AreCertificate ids g claims × TellCoreNumbers ids g claims) k) (one-piece left)
+    (c.verdict.ensures.certified claims (with_piece (Some []) left) (c.in-Ok-None.ensures.taken claims (Some []) h c.in-Ok-None.field-0-is) none)
 
-pub returns-in_default-clause-faulty : goal.returns-in_default-clause-faulty
-returns-in_default-clause-faulty c = λ claims order known h.
-    let now = c.args.insisting.now in
-    some-weaker (IsCountFault claims order now.sweep.later.items now.sweep.supporters.items)
-    (λ (fault : ClaimFault). IsFaultOfStream claims fault known) c.fault_by_counts.result
-    (λ fault f. faulty-ascending claims order now known h.insisted c.in_default.is fault f)
-    (c.fault_by_counts.ensures.found claims order (AreCounted-looked claims order now c.args.lines.now known h c.in_default.is))
+pub returns-in-Ok-None-clause-faulty : goal.returns-in-Ok-None-clause-faulty
+returns-in-Ok-None-clause-faulty g c = λ claims h.
+    let left = g.S.Source.left c.args.source.now in
+    some-weaker (λ (fault : ClaimFault). IsFaultOfStream claims fault (with_piece (Some []) left)) (λ (fault : ClaimFault). IsFaultOfStream claims fault left)
+    c.verdict.result (λ fault f. subst (λ (k : Option (List ℕ)). IsFaultOfStream claims fault k) (one-piece left) f)
+    (c.verdict.ensures.faulty claims (with_piece (Some []) left) (c.in-Ok-None.ensures.taken claims (Some []) h c.in-Ok-None.field-0-is))
 
-pub returns-in-Unclaimed-clause-faulty : goal.returns-in-Unclaimed-clause-faulty
-returns-in-Unclaimed-clause-faulty c = λ claims order known h. (
-  c.in-Some.faulty.line,
-  HasFaultyLine-kept claims order c.args.insisting.now known h.insisted
-      (record { line = c.in-Some.faulty.line; fault = wrong.Unclaimed c.in-Unclaimed.id })
-      (c.in-Some.is ∙ ap (λ f. Some (record { line = c.in-Some.faulty.line; fault = f })) c.in-Unclaimed.is),
-)
+pub returns-in-Ok-Some-clause-faulty : goal.returns-in-Ok-Some-clause-faulty
+returns-in-Ok-Some-clause-faulty g c = λ claims h.
+    let left = g.S.Source.left c.args.source.now in
+    let unclaimed = rw c.in-Ok-Some.field-0-is at c.in-Ok-Some.ensures.unclaimed in
+    subst (λ (k : Option (List ℕ)). IsFaultOfStream claims (claim_fault.Missing c.in-Ok-Some.id) k) (one-piece left) (unclaimed claims (Some []) h)
 
-pub returns-in_default-fault-clause-line : goal.returns-in_default-fault-clause-line
-returns-in_default-fault-clause-line c = λ claims order known found h e.
-    let same : c.in-Some.faulty ≡ found = cc in
-    subst (λ (f : FaultyLine). HasFaultyLine claims known f) same
-    (HasFaultyLine-kept claims order c.args.insisting.now known h.insisted c.in-Some.faulty c.in-Some.is)
+pub returns-clause-line : goal.returns-clause-line
+returns-clause-line g c = λ claims faulty h e.
+    let same : c.in-Err.fault ≡ stream.Line faulty = cc in
+    HasFaultyLine-piece claims (g.S.Source.left c.args.source.now) faulty (c.in-Err.ensures.line claims (Some []) faulty h (ap Err same))

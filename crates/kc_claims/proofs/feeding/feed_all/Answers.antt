@@ -1,10 +1,8 @@
--- What the pieces tell of the source is told of all of it.
-use Rattle.kc_claims.specs.declared.fault.Unswept.TheVariants as unswept
-use Rattle.kc_claims.proofs.HandedOn.{passed-other}
+-- What is told of a source with so many bytes is told of one with no more.
+use Rattle.std.proofs.Common.{arith}
 use Rattle.kc_claims.proofs.feeding.feed_all.Goals as goal
 
-pub returns-in_err-feed_pieces-clause-faultless : goal.returns-in_err-feed_pieces-clause-faultless
-returns-in_err-feed_pieces-clause-faultless g c = λ other.
-    c.in_err-feed_pieces.ensures.faultless
-    (passed-other c.from_residual-in_err-feed_pieces.result c.in_err-feed_pieces.field-0.0 unswept.ReadFault
-    c.from_residual-in_err-feed_pieces.ensures.1 other)
+pub returns-in-Ok-clause-fed : goal.returns-in-Ok-clause-fed
+returns-in-Ok-clause-fed g c =
+    let (less, fed) = c.in-Ok.ensures.fed in
+    record { text = fed.text; read = fed.read; few = omega (arith, fed.few); took = fed.took }

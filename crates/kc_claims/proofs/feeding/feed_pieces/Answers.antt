@@ -33,16 +33,18 @@ returns-then-n-eq0-clause-fed g c =
     let (text, took, f, room) = c.loop-n.invariant.fed in
     let (given, more, long, fed) = c.in_ok-n.ensures.given in
     let h = HasFed-shorter g.T.TakesLines.taken c.args.taker.now c.feed_next.new.taker c.feed_next.new.carry.items text given
-    (omega (arith, long, c.if-n-eq0.true)) (fed c.args.taker.now text f) in
-    record {
-      text = text;
-      read = given-whole (g.S.Source.left c.args.source.now) (g.S.Source.left c.loop-n.source) (g.S.Source.left c.feed_next.new.source) text given
-          (omega (arith, long, c.if-n-eq0.true)) took more (c.in_ok-n.ensures.ended c.if-n-eq0.true);
-      few = omega (arith, room);
-      took = subst (g.T.TakesLines.taken c.args.taker.now c.take_last.new.taker)
-          (ap (λ (t : List ℕ). h.done ++ t) c.deref.ensures.value ∙ sym h.parts)
-          (c.in_ok-take_last.ensures.taken c.args.taker.now h.done h.ended h.took);
-    }
+    (omega (arith, long, c.if-n-eq0.true)) (fed c.args.taker.now text f) in (
+      omega (arith, room),
+      record {
+        text = text;
+        read = given-whole (g.S.Source.left c.args.source.now) (g.S.Source.left c.loop-n.source) (g.S.Source.left c.feed_next.new.source) text given
+            (omega (arith, long, c.if-n-eq0.true)) took more (c.in_ok-n.ensures.ended c.if-n-eq0.true);
+        few = omega (arith, room);
+        took = subst (g.T.TakesLines.taken c.args.taker.now c.take_last.new.taker)
+            (ap (λ (t : List ℕ). h.done ++ t) c.deref.ensures.value ∙ sym h.parts)
+            (c.in_ok-take_last.ensures.taken c.args.taker.now h.done h.ended h.took);
+      },
+    )
 
 pub loop-n-smaller : goal.loop-n-smaller
 loop-n-smaller g c = omega (arith, c.if-left-n.false, c.if-n-eq0.false)
