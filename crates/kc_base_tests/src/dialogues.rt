@@ -9,7 +9,6 @@ use kc_wire::hindrances::Hindrances;
 use kc_wire::mem_wire::MemWire;
 use std::alloc::Global;
 use std::process::Abort;
-use std::test::Fail;
 
 /// What the echo says of some bytes: those before the first full stop.
 fn said(bytes: &[u8]) -> &[u8] {
@@ -19,21 +18,43 @@ fn said(bytes: &[u8]) -> &[u8] {
     }
 }
 
-/// No hindrance but that each read gives at most `size` bytes.
-fn cut(alloc: Global, size: usize) -> Result<Hindrances, NoMemory> {
-    Ok(Hindrances {
-        cuts: vec![in alloc; size; 16]?,
-        reads: Vec::new(alloc),
-        writes: Vec::new(alloc),
+/// What hinders a wire: each read gives at most so many bytes, reads and writes of these numbers fail, and there is so much room.
+#[derive(Clone, Copy)]
+struct Snags<'a> {
+    cut: usize,
+    reads: &'a [usize],
+    writes: &'a [usize],
+    room: usize,
+}
+
+/// Nothing but that each read gives at most `cut` bytes.
+fn cut_to(cut: usize) -> Snags<'static> {
+    Snags {
+        cut,
+        reads: &[],
+        writes: &[],
         room: usize::MAX,
+    }
+}
+
+/// The hindrances of a wire in memory.
+fn hindrances_of(alloc: Global, snags: Snags) -> Result<Hindrances, NoMemory> {
+    Ok(Hindrances {
+        cuts: vec![in alloc; snags.cut; 16]?,
+        reads: Vec::from_slice(alloc, snags.reads)?,
+        writes: Vec::from_slice(alloc, snags.writes)?,
+        room: snags.room,
     })
 }
 
-/// What was read and what was written in all. At each read just what is said of the bytes read before was written.
-fn moments<R: Abort + AllocGlobal>(
-    rt: &R,
-    events: &[MemEvent],
-) -> Result<(Vec<u8>, Vec<u8>), NoMemory> {
+/// A wire in memory with this input, with these snags.
+fn wire_of(alloc: Global, input: &[u8], snags: Snags) -> Result<MemWire, NoMemory> {
+    let hindrances = hindrances_of(alloc, snags)?;
+    Ok(MemWire::new(alloc, Vec::from_slice(alloc, input)?, hindrances))
+}
+
+/// What was written in all. At each read just what is said of the bytes read before was written.
+fn written<R: Abort + AllocGlobal>(rt: &R, events: &[MemEvent]) -> Result<Vec<u8>, NoMemory> {
     let mut read: Vec<u8> = Vec::new(rt.alloc());
     let mut written: Vec<u8> = Vec::new(rt.alloc());
     for event in events {
@@ -45,78 +66,106 @@ fn moments<R: Abort + AllocGlobal>(
             MemEvent::Wrote(bytes) => written.extend_from_slice(bytes)?,
         }
     }
-    Ok((read, written))
+    Ok(written)
 }
 
 /// Holds a dialogue, and compares how it ends, what was written and which calls failed.
 fn check<R: Abort + AllocGlobal>(
     rt: &R,
     input: &[u8],
-    hindrances: Hindrances,
+    snags: Snags,
     wanted: (DialogueEnd, &[u8], WireFaults),
-) -> Result<(), Fail> {
-    let alloc = rt.alloc();
-    let mut wire = MemWire::new(alloc, Vec::from_slice(alloc, input)?, hindrances);
-    let end = answer_wire(alloc, &mut wire, &mut Echo { stopped: false });
-    assert_eq!(rt; end, wanted.0);
-    assert_eq!(rt; wire.faults(), wanted.2);
-    let (_, written) = moments(rt, wire.events())?;
-    assert_eq!(rt; written.as_slice(), wanted.1);
-    Ok(())
+) {
+    let mut wire = wire_of(rt.alloc(), input, snags).expect(rt, "no memory");
+    let end = answer_wire(rt.alloc(), &mut wire, &mut Echo { stopped: false });
+    let written = written(rt, wire.events()).expect(rt, "no memory");
+    assert_eq!(rt; (end, written.as_slice(), wire.faults()), wanted);
+}
+
+/// Holds three dialogues where each read gives at most `cut` bytes: one that goes to its end, one that is ended, and one without input.
+fn check_cut<R: Abort + AllocGlobal>(rt: &R, cut: usize) {
+    let none = WireFaults::NONE;
+    check(
+        rt,
+        b"abcdef",
+        cut_to(cut),
+        (DialogueEnd::Done, b"abcdef?", none),
+    );
+    check(
+        rt,
+        b"abc.def",
+        cut_to(cut),
+        (DialogueEnd::Ended, b"abc", none),
+    );
+    check(rt, b"", cut_to(cut), (DialogueEnd::Done, b"?", none));
 }
 
 #[test]
-fn each_answer_comes_before_the_next_read(rt: HostRuntime) -> Result<(), Fail> {
-    let alloc = rt.alloc();
-    for size in 0..8 {
-        let done = (DialogueEnd::Done, b"abcdef?".as_slice(), WireFaults::NONE);
-        check(&rt, b"abcdef", cut(alloc, size)?, done)?;
-        let ended = (DialogueEnd::Ended, b"abc".as_slice(), WireFaults::NONE);
-        check(&rt, b"abc.def", cut(alloc, size)?, ended)?;
-        let empty = (DialogueEnd::Done, b"?".as_slice(), WireFaults::NONE);
-        check(&rt, b"", cut(alloc, size)?, empty)?;
+fn each_answer_comes_before_the_next_read(rt: HostRuntime) {
+    for cut in 0..8 {
+        check_cut(&rt, cut);
     }
-    Ok(())
 }
 
 #[test]
-fn a_read_that_fails_ends_with_all_answers_written(rt: HostRuntime) -> Result<(), Fail> {
-    let alloc = rt.alloc();
+fn a_read_that_fails_ends_with_all_answers_written(rt: HostRuntime) {
     let faults = WireFaults {
         reads: 1,
         ..WireFaults::NONE
     };
     for number in 1..8 {
-        let mut hindrances = cut(alloc, 1)?;
-        hindrances.reads.push(number)?;
+        let snags = Snags {
+            reads: &[number],
+            ..cut_to(1)
+        };
         let written = b"abcdef".get(..number - 1).unwrap_or(b"abcdef");
-        let wanted = (DialogueEnd::ReadFault, written, faults);
-        check(&rt, b"abcdef", hindrances, wanted)?;
+        check(
+            &rt,
+            b"abcdef",
+            snags,
+            (DialogueEnd::ReadFault, written, faults),
+        );
     }
-    Ok(())
 }
 
-#[test]
-fn a_write_that_fails_ends_with_a_front_of_its_text(rt: HostRuntime) -> Result<(), Fail> {
-    let alloc = rt.alloc();
-    let mut first = cut(alloc, 4)?;
-    first.writes.push(1)?;
+/// A write fails after half of its text.
+fn check_write_fault<R: Abort + AllocGlobal>(rt: &R) {
+    let snags = Snags {
+        writes: &[1],
+        ..cut_to(4)
+    };
     let failed = WireFaults {
         writes: 1,
         ..WireFaults::NONE
     };
-    let wanted = (DialogueEnd::WriteFault, b"ab".as_slice(), failed);
-    check(&rt, b"abcdef", first, wanted)?;
+    check(
+        rt,
+        b"abcdef",
+        snags,
+        (DialogueEnd::WriteFault, b"ab", failed),
+    );
+}
+
+/// The reader goes away after so many bytes.
+fn check_departure<R: Abort + AllocGlobal>(rt: &R, room: usize) {
+    let snags = Snags { room, ..cut_to(2) };
     let gone = WireFaults {
         departures: 1,
         ..WireFaults::NONE
     };
+    let written = b"abcdef?".get(..room).unwrap_or(b"abcdef?");
+    check(
+        rt,
+        b"abcdef",
+        snags,
+        (DialogueEnd::ReaderGone, written, gone),
+    );
+}
+
+#[test]
+fn a_write_that_fails_ends_with_a_front_of_its_text(rt: HostRuntime) {
+    check_write_fault(&rt);
     for room in 0..7 {
-        let mut hindrances = cut(alloc, 2)?;
-        hindrances.room = room;
-        let written = b"abcdef?".get(..room).unwrap_or(b"abcdef?");
-        let wanted = (DialogueEnd::ReaderGone, written, gone);
-        check(&rt, b"abcdef", hindrances, wanted)?;
+        check_departure(&rt, room);
     }
-    Ok(())
 }

@@ -2,12 +2,9 @@
 use kc_files::fault::FolderFault;
 use kc_files::folder::{Folder, Unplaced};
 use kc_files::mem_folder::{MemFolder, Refusals};
-use kc_io::NoMemory;
 use kc_io::mem_sink::MemSink;
 use kc_io::sink::write_all;
-use std::alloc::Global;
 use std::process::Abort;
-use std::test::Fail;
 
 /// What nothing refuses.
 const NOTHING: Refusals = Refusals {
@@ -17,11 +14,11 @@ const NOTHING: Refusals = Refusals {
 };
 
 /// A folder with a file `out` of the text `old`, whose part takes nine bytes.
-fn folder_of(alloc: Global, refusals: Refusals) -> Result<MemFolder, NoMemory> {
-    let part = MemSink::new(alloc, 9, 4, Vec::new(alloc))?;
-    let name = String::from_str(alloc, "out")?;
-    let old = Vec::from_slice(alloc, b"old")?;
-    Ok(MemFolder::new(name, Some(old), part, refusals))
+fn folder_of<R: Abort + AllocGlobal>(rt: &R, refusals: Refusals) -> MemFolder {
+    let part = MemSink::new(rt.alloc(), 9, 4, Vec::new(rt.alloc())).expect(rt, "no memory");
+    let name = String::from_str(rt.alloc(), "out").expect(rt, "no memory");
+    let old = Vec::from_slice(rt.alloc(), b"old").expect(rt, "no memory");
+    MemFolder::new(name, Some(old), part, refusals)
 }
 
 /// Writes a text to the part of a file, and puts it in place.
@@ -53,14 +50,10 @@ fn check<R: Abort + AllocGlobal>(
     text: &[u8],
     end: Result<(), Unplaced>,
     wanted: &[u8],
-) -> Result<(), Fail> {
-    let mut folder = folder_of(rt.alloc(), refusals)?;
-    assert_eq!(rt; replace(&mut folder, name, text), end);
-    match folder.bytes() {
-        Some(bytes) => assert_eq!(rt; bytes, wanted),
-        None => assert!(rt; false),
-    }
-    Ok(())
+) {
+    let mut folder = folder_of(rt, refusals);
+    let ended = replace(&mut folder, name, text);
+    assert_eq!(rt; (ended, folder.bytes()), (end, Some(wanted)));
 }
 
 /// The fault of a part that is taken away.
@@ -72,14 +65,13 @@ fn refused(fault: FolderFault) -> Result<(), Unplaced> {
 }
 
 #[test]
-fn a_file_is_replaced_whole(rt: HostRuntime) -> Result<(), Fail> {
-    check(&rt, NOTHING, "out", b"all of it", Ok(()), b"all of it")?;
-    check(&rt, NOTHING, "out", b"", Ok(()), b"")?;
-    Ok(())
+fn a_file_is_replaced_whole(rt: HostRuntime) {
+    check(&rt, NOTHING, "out", b"all of it", Ok(()), b"all of it");
+    check(&rt, NOTHING, "out", b"", Ok(()), b"");
 }
 
 #[test]
-fn a_refusal_leaves_the_file(rt: HostRuntime) -> Result<(), Fail> {
+fn a_refusal_leaves_the_file(rt: HostRuntime) {
     let unbegun = Refusals {
         unbegun: Some(FolderFault::Begun),
         ..NOTHING
@@ -89,7 +81,7 @@ fn a_refusal_leaves_the_file(rt: HostRuntime) -> Result<(), Fail> {
         ..NOTHING
     };
     let missing = refused(FolderFault::Missing);
-    check(&rt, NOTHING, "another", b"new", missing, b"old")?;
+    check(&rt, NOTHING, "another", b"new", missing, b"old");
     check(
         &rt,
         unbegun,
@@ -97,7 +89,7 @@ fn a_refusal_leaves_the_file(rt: HostRuntime) -> Result<(), Fail> {
         b"new",
         refused(FolderFault::Begun),
         b"old",
-    )?;
+    );
     check(
         &rt,
         unplaced,
@@ -105,12 +97,11 @@ fn a_refusal_leaves_the_file(rt: HostRuntime) -> Result<(), Fail> {
         b"new",
         refused(FolderFault::Forbidden),
         b"old",
-    )?;
-    Ok(())
+    );
 }
 
 #[test]
-fn a_part_that_is_cut_leaves_the_file(rt: HostRuntime) -> Result<(), Fail> {
+fn a_part_that_is_cut_leaves_the_file(rt: HostRuntime) {
     let sticks = Refusals {
         sticks: true,
         ..NOTHING
@@ -126,7 +117,6 @@ fn a_part_that_is_cut_leaves_the_file(rt: HostRuntime) -> Result<(), Fail> {
         b"all of this",
         refused(FolderFault::Cut),
         b"old",
-    )?;
-    check(&rt, sticks, "out", b"all of this", left, b"old")?;
-    Ok(())
+    );
+    check(&rt, sticks, "out", b"all of this", left, b"old");
 }

@@ -1,7 +1,5 @@
 //! Rounds by moments that are made up, with four threads to be had.
 use kc_pace::Pace;
-use std::process::Abort;
-use std::test::Fail;
 
 /// When the runs begin: their first second goes to something else.
 const SECOND: u64 = 1_000_000_000;
@@ -42,32 +40,27 @@ fn work_off(batches: u32, pieces: u64, alone: u64, together: u64) -> WorkedOff {
 
 /// A second of work for one thread takes less than half a second.
 #[test]
-fn threads_that_are_worth_it_are_used(rt: HostRuntime) -> Result<(), Fail> {
+fn threads_that_are_worth_it_are_used(rt: HostRuntime) {
     let run = work_off(100, 1_000, 10_000, 2_700);
     assert!(rt; run.took < SECOND / 2 && run.crowded > 60);
-    Ok(())
 }
 
 /// A second of work for one thread, where four threads take twice as long, takes at most 1.05 seconds, though all threads are tried.
 #[test]
-fn threads_that_are_not_worth_it_are_tried_seldom(rt: HostRuntime) -> Result<(), Fail> {
+fn threads_that_are_not_worth_it_are_tried_seldom(rt: HostRuntime) {
     let run = work_off(100, 1_000, 10_000, 20_000);
     assert!(rt; run.took <= SECOND / 20 * 21 && run.crowded > 0);
-    Ok(())
 }
 
 /// Where four threads gain a tenth, at more than three times the processor time, one thread does it.
 #[test]
-fn threads_that_gain_little_are_not_used(rt: HostRuntime) -> Result<(), Fail> {
+fn threads_that_gain_little_are_not_used(rt: HostRuntime) {
     let run = work_off(100, 1_000, 10_000, 9_000);
     assert!(rt; run.took > SECOND / 20 * 19 && run.crowded < 10);
-    Ok(())
 }
 
 #[test]
-fn short_rounds_have_one_thread(rt: HostRuntime) -> Result<(), Fail> {
+fn short_rounds_have_one_thread(rt: HostRuntime) {
     let run = work_off(1_000, 100, 10_000, 2_700);
-    assert_eq!(rt; run.crowded, 0);
-    assert_eq!(rt; run.took, SECOND);
-    Ok(())
+    assert_eq!(rt; (run.crowded, run.took), (0, SECOND));
 }

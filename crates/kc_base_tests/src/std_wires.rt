@@ -8,7 +8,6 @@ use kc_wire::std_wire::StdWire;
 use std::io;
 use std::io::{Error, ErrorKind, Read, Write};
 use std::process::Abort;
-use std::test::Fail;
 
 /// A reader whose first calls are interrupted, and which then gives a byte a call.
 #[derive(Drop)]
@@ -69,7 +68,7 @@ fn check<R: Abort + AllocGlobal>(rt: &R, interruptions: u32, screen: Screen, wan
 }
 
 #[test]
-fn streams_that_fail_end_the_dialogue(rt: HostRuntime) -> Result<(), Fail> {
+fn streams_that_fail_end_the_dialogue(rt: HostRuntime) {
     let screen = |room: usize, last: ErrorKind, flushes: bool| Screen {
         room,
         last,
@@ -86,5 +85,4 @@ fn streams_that_fail_end_the_dialogue(rt: HostRuntime) -> Result<(), Fail> {
         DialogueEnd::WriteFault,
     );
     check(&rt, 0, screen(4, broken, false), DialogueEnd::ReaderGone);
-    Ok(())
 }

@@ -11,7 +11,6 @@ use kc_io::std_source::StdSource;
 use std::io;
 use std::io::{Error, ErrorKind, Read, Write};
 use std::process::Abort;
-use std::test::Fail;
 
 /// The most bytes that a hindered call moves.
 const PER_CALL: usize = 2;
@@ -69,14 +68,12 @@ fn check_read<R: Abort + AllocGlobal>(
     reader: Hindered,
     most: usize,
     wanted: Result<&[u8], ReadAllFault>,
-) -> Result<(), Fail> {
+) {
     let mut source = StdSource::new(reader);
-    match (read_all(rt.alloc(), &mut source, most), wanted) {
-        (Ok(bytes), Ok(all)) => assert_eq!(rt; bytes.as_slice(), all),
-        (Err(fault), Err(named)) => assert_eq!(rt; fault, named),
-        _ => assert!(rt; false),
+    match read_all(rt.alloc(), &mut source, most) {
+        Ok(bytes) => assert_eq!(rt; Ok(bytes.as_slice()), wanted),
+        Err(fault) => assert_eq!(rt; Err(fault), wanted),
     }
-    Ok(())
 }
 
 /// Writes a text of five bytes to a hindered writer, and compares.
@@ -86,45 +83,50 @@ fn check_write<R: Abort>(rt: &R, writer: Hindered, wanted: Result<(), Failed>) {
 }
 
 #[test]
-fn interrupted_calls_are_made_again(rt: HostRuntime) -> Result<(), Fail> {
+fn interrupted_calls_are_made_again(rt: HostRuntime) {
     let hindered = |interruptions: u32| Hindered {
         interruptions,
         left: b"12345",
         last: None,
     };
-    check_read(&rt, hindered(999), 5, Ok(b"12345"))?;
-    check_read(&rt, hindered(999), usize::MAX, Ok(b"12345"))?;
-    check_read(&rt, hindered(999), 4, Err(ReadAllFault::TooLong))?;
-    check_read(&rt, hindered(1_000), 5, Err(ReadAllFault::ReadFault))?;
+    check_read(&rt, hindered(999), 5, Ok(b"12345"));
+    check_read(&rt, hindered(999), usize::MAX, Ok(b"12345"));
+    check_read(&rt, hindered(999), 4, Err(ReadAllFault::TooLong));
+    check_read(&rt, hindered(1_000), 5, Err(ReadAllFault::ReadFault));
     check_write(&rt, hindered(999), Ok(()));
     check_write(&rt, hindered(1_000), Err(Failed));
-    Ok(())
 }
 
 #[test]
-fn faults_in_mid_stream_are_told(rt: HostRuntime) -> Result<(), Fail> {
+fn faults_in_mid_stream_are_told(rt: HostRuntime) {
     let short = |last: Option<ErrorKind>| Hindered {
         interruptions: 1,
         left: b"123",
         last,
     };
     let broken = Some(ErrorKind::BrokenPipe);
-    check_read(&rt, short(broken), 5, Err(ReadAllFault::ReadFault))?;
+    check_read(&rt, short(broken), 5, Err(ReadAllFault::ReadFault));
     check_write(&rt, short(broken), Err(Failed));
     check_write(&rt, short(None), Err(Failed));
-    Ok(())
+}
+
+/// All of a source in memory with this text.
+fn read_again<R: Abort + AllocGlobal>(rt: &R, text: &[u8]) -> Vec<u8> {
+    let held = Vec::from_slice(rt.alloc(), text).expect(rt, "no memory");
+    let mut source = MemSource::new(held, 4, Vec::new(rt.alloc()));
+    read_all(rt.alloc(), &mut source, 9).expect(rt, "a fault")
+}
+
+/// A sink in memory takes this text, which is put out whole.
+fn check_put_out<R: Abort + AllocGlobal>(rt: &R, text: &[u8]) {
+    let mut sink = MemSink::new(rt.alloc(), 9, 4, Vec::new(rt.alloc())).expect(rt, "no memory");
+    let ended = write_all(&mut sink, text);
+    assert_eq!(rt; (ended, sink.taken()), (Ok(()), text));
 }
 
 #[test]
-fn a_text_in_memory_is_read_and_put_out(rt: HostRuntime) -> Result<(), Fail> {
-    let alloc = rt.alloc();
-    let text = Vec::from_slice(alloc, b"some text")?;
-    let mut source = MemSource::new(text, 4, Vec::new(alloc));
-    let mut sink = MemSink::new(alloc, 9, 4, Vec::new(alloc))?;
-    match read_all(alloc, &mut source, 9) {
-        Ok(bytes) => assert_eq!(rt; write_all(&mut sink, &bytes), Ok(())),
-        Err(_) => assert!(rt; false),
-    }
-    assert_eq!(rt; sink.taken(), b"some text".as_slice());
-    Ok(())
+fn a_text_in_memory_is_read_and_put_out(rt: HostRuntime) {
+    let bytes = read_again(&rt, b"some text");
+    assert_eq!(rt; bytes.as_slice(), b"some text".as_slice());
+    check_put_out(&rt, &bytes);
 }
