@@ -1,9 +1,12 @@
 //! Streams, with what they are answered.
+ghost use Rattle.std.specs.Prelude.{List, ℕ};
+ghost use Rattle.kc_watch.specs.Watching.{WasFed};
+
 use kc_dialogue::replier::Replier;
 use kc_text::{Kind, Refusal};
 use kc_watch::{BadLines, Show, WatchOptions, Watcher};
+use std::alloc::Global;
 use std::process::Abort;
-use std::test::Fail;
 
 /// Nothing but the lines of the graph and of the batches.
 const BRIEF: WatchOptions = WatchOptions {
@@ -48,89 +51,93 @@ struct Reply {
     refused_batches: u64,
 }
 
-/// What a stream is answered that comes in pieces of a size, or of one byte where that is 0.
+/// Feeds a watcher a stream to its end, in pieces of a size, or of one byte where that is 0.
+fn feed_all(
+    alloc: Global,
+    watcher: &mut Watcher,
+    stream: &[u8],
+    size: usize,
+    out: &mut Vec<u8>,
+) -> Result<(), &'static str>
+    requires { (fed : List ℕ) × WasFed watcher.old fed }
+{
+    let mut rest = stream;
+    while !rest.is_empty() {
+        let (piece, more) = rest.split_at(rest.len().min(size.max(1)));
+        watcher.feed(alloc, piece, out).map_err(|_| "no memory")?;
+        rest = more;
+    }
+    watcher.end(alloc, out).map_err(|_| "no memory")
+}
+
+/// What a stream is answered that comes in pieces of a size.
 fn answered<R: Abort + AllocGlobal>(
     rt: &R,
     options: WatchOptions,
     stream: &[u8],
     size: usize,
-) -> Result<Reply, Fail> {
-    let alloc = rt.alloc();
-    let mut watcher = Watcher::new(alloc, options);
-    let mut out = Vec::new(alloc);
-    let mut rest = stream;
-    while !rest.is_empty() {
-        let (piece, more) = rest.split_at(rest.len().min(size.max(1)));
-        watcher
-            .feed(alloc, piece, &mut out)
-            .map_err(|_| "no memory")?;
-        rest = more;
-    }
-    watcher.end(alloc, &mut out).map_err(|_| "no memory")?;
-    Ok(Reply {
-        text: out,
+) -> Reply {
+    let mut watcher = Watcher::new(rt.alloc(), options);
+    let mut text = Vec::new(rt.alloc());
+    feed_all(rt.alloc(), &mut watcher, stream, size, &mut text).expect(rt, "it has to end");
+    Reply {
+        text,
         refusal: watcher.refusal(),
         refused_batches: watcher.refused_batches(),
-    })
+    }
 }
 
-/// Checks what a stream is answered of whose batches so many are dropped, in pieces of several sizes.
-fn check_counted<R: Abort + AllocGlobal>(
+/// Checks what a stream is answered that comes in pieces of a size.
+fn check_pieces<R: Abort + AllocGlobal>(
+    rt: &R,
+    options: WatchOptions,
+    stream: &[u8],
+    size: usize,
+    wanted: &[u8],
+    ending: (Option<Refusal>, u64),
+) {
+    let got = answered(rt, options, stream, size);
+    assert_eq!(rt; got.text.as_slice(), wanted);
+    assert_eq!(rt; (got.refusal, got.refused_batches), ending);
+}
+
+/// Checks what a stream is answered, in pieces of several sizes: its text, the refused line that ends it, and how many batches are dropped.
+fn check_reply<R: Abort + AllocGlobal>(
     rt: &R,
     options: WatchOptions,
     stream: &[u8],
     wanted: &[u8],
-    count: u64,
-) -> Result<(), Fail> {
+    ending: (Option<Refusal>, u64),
+) {
     for size in [1, 2, 7, 1000] {
-        let got = answered(rt, options, stream, size)?;
-        assert_eq!(rt; got.text.as_slice(), wanted);
-        assert_eq!(rt; got.refusal, None);
-        assert_eq!(rt; got.refused_batches, count);
+        check_pieces(rt, options, stream, size, wanted, ending);
     }
-    Ok(())
 }
 
 /// Checks what a stream is answered of which no line is refused.
-fn check_with<R: Abort + AllocGlobal>(
-    rt: &R,
-    options: WatchOptions,
-    stream: &[u8],
-    wanted: &[u8],
-) -> Result<(), Fail> {
-    check_counted(rt, options, stream, wanted, 0)
+fn check_with<R: Abort + AllocGlobal>(rt: &R, options: WatchOptions, stream: &[u8], wanted: &[u8]) {
+    check_reply(rt, options, stream, wanted, (None, 0));
 }
 
 /// Checks what a stream is answered where refused lines drop their batches, so many in all.
-fn check_dropped<R: Abort + AllocGlobal>(
-    rt: &R,
-    stream: &[u8],
-    wanted: &[u8],
-    count: u64,
-) -> Result<(), Fail> {
-    check_counted(rt, DROPS, stream, wanted, count)
+fn check_dropped<R: Abort + AllocGlobal>(rt: &R, stream: &[u8], wanted: &[u8], count: u64) {
+    check_reply(rt, DROPS, stream, wanted, (None, count));
 }
 
 /// Checks what a stream is answered where nothing more is asked for.
-fn check<R: Abort + AllocGlobal>(rt: &R, stream: &[u8], wanted: &[u8]) -> Result<(), Fail> {
-    check_with(rt, BRIEF, stream, wanted)
+fn check<R: Abort + AllocGlobal>(rt: &R, stream: &[u8], wanted: &[u8]) {
+    check_with(rt, BRIEF, stream, wanted);
 }
 
-/// Checks what a stream is answered of which this line is refused and ends the answers, in pieces of several sizes.
+/// Checks what a stream is answered of which this line is refused and ends the answers.
 fn check_ended<R: Abort + AllocGlobal>(
     rt: &R,
     options: WatchOptions,
     stream: &[u8],
     wanted: &[u8],
     refusal: Refusal,
-) -> Result<(), Fail> {
-    for size in [1, 2, 7, 1000] {
-        let got = answered(rt, options, stream, size)?;
-        assert_eq!(rt; got.text.as_slice(), wanted);
-        assert_eq!(rt; got.refusal, Some(refusal));
-        assert_eq!(rt; got.refused_batches, 0);
-    }
-    Ok(())
+) {
+    check_reply(rt, options, stream, wanted, (Some(refusal), 0));
 }
 
 /// Checks what a stream is answered of which a line is refused.
@@ -140,19 +147,19 @@ fn check_refused<R: Abort + AllocGlobal>(
     wanted: &[u8],
     line: u64,
     kind: Kind,
-) -> Result<(), Fail> {
-    check_ended(rt, CHANGES, stream, wanted, Refusal { line, kind })
+) {
+    check_ended(rt, CHANGES, stream, wanted, Refusal { line, kind });
 }
 
 #[test]
-fn starts(rt: HostRuntime) -> Result<(), Fail> {
-    check(&rt, b"", b"graph vertices 0 edges 0 top 0\n")?;
-    check(&rt, b"7 7", b"graph vertices 1 edges 0 top 0\n")?;
-    check(&rt, b"1 2\n2 3\r\n3 1", b"graph vertices 3 edges 3 top 2\n")
+fn starts(rt: HostRuntime) {
+    check(&rt, b"", b"graph vertices 0 edges 0 top 0\n");
+    check(&rt, b"7 7", b"graph vertices 1 edges 0 top 0\n");
+    check(&rt, b"1 2\n2 3\r\n3 1", b"graph vertices 3 edges 3 top 2\n");
 }
 
 #[test]
-fn batches(rt: HostRuntime) -> Result<(), Fail> {
+fn batches(rt: HostRuntime) {
     check(
         &rt,
         b"1 2\n2 3\nbatch\n+ 1 3\nbatch\n- 3 1\n- 1 3\n# no change\n+ 2 3\nbatch\n",
@@ -160,29 +167,29 @@ fn batches(rt: HostRuntime) -> Result<(), Fail> {
           batch 1 added 1 removed 0 kept 0 edges 3 top 2\n\
           batch 2 added 0 removed 1 kept 1 overruled 1 edges 2 top 1\n\
           batch 3 added 0 removed 0 kept 0 edges 2 top 1\n",
-    )?;
+    );
     check(
         &rt,
         b"batch\n+ 5 9\nbatch\n+ 9 7\n+ 7 5\n",
         b"graph vertices 0 edges 0 top 0\n\
           batch 1 added 1 removed 0 kept 0 edges 1 top 1\n\
           batch 2 added 2 removed 0 kept 0 edges 3 top 2\n",
-    )
+    );
 }
 
 #[test]
-fn refused_lines(rt: HostRuntime) -> Result<(), Fail> {
+fn refused_lines(rt: HostRuntime) {
     let start = b"graph vertices 2 edges 1 top 1\n";
-    check_refused(&rt, b"1 2\n1\nbatch\n", b"", 2, Kind::MissingField)?;
-    check_refused(&rt, b"+ 1 2\n", b"", 1, Kind::UpdateOutsideBatch)?;
-    check_refused(&rt, b"1 2\nbatch\n3 4", start, 3, Kind::EdgeLineInBatch)?;
+    check_refused(&rt, b"1 2\n1\nbatch\n", b"", 2, Kind::MissingField);
+    check_refused(&rt, b"+ 1 2\n", b"", 1, Kind::UpdateOutsideBatch);
+    check_refused(&rt, b"1 2\nbatch\n3 4", start, 3, Kind::EdgeLineInBatch);
     check_refused(
         &rt,
         b"1 2\nbatch\n+ 3 3\nbatch\n",
         start,
         3,
         Kind::LoopInBatch,
-    )
+    );
 }
 
 /// A path of ids in another order than they come in, a triangle of them with a new id on it, and then the path without its end.
@@ -190,7 +197,7 @@ const TRIANGLE: &[u8] =
     b"30 20\n20 10\nbatch\n+ 10 30\n+ 5 30\nbatch\n- 20 10\nbatch\n- 20 30\n+ 7 5\n- 5 7\n";
 
 #[test]
-fn changed_core_numbers(rt: HostRuntime) -> Result<(), Fail> {
+fn changed_core_numbers(rt: HostRuntime) {
     check_with(
         &rt,
         CHANGES,
@@ -199,7 +206,7 @@ fn changed_core_numbers(rt: HostRuntime) -> Result<(), Fail> {
           batch 1 added 2 removed 0 kept 0 edges 4 top 2\n5 - 1\n10 1 2\n20 1 2\n30 1 2\n\
           batch 2 added 0 removed 1 kept 0 edges 3 top 1\n10 2 1\n20 2 1\n30 2 1\n\
           batch 3 added 0 removed 1 kept 1 overruled 1 edges 2 top 1\n7 - 0\n20 1 0\n",
-    )?;
+    );
     check_with(
         &rt,
         CHANGES,
@@ -207,11 +214,11 @@ fn changed_core_numbers(rt: HostRuntime) -> Result<(), Fail> {
         b"graph vertices 2 edges 1 top 1\n\
           batch 1 added 0 removed 0 kept 0 edges 1 top 1\n\
           batch 2 added 0 removed 0 kept 1 edges 1 top 1\n",
-    )
+    );
 }
 
 #[test]
-fn who_comes_into_a_core_and_leaves_it(rt: HostRuntime) -> Result<(), Fail> {
+fn who_comes_into_a_core_and_leaves_it(rt: HostRuntime) {
     check_with(
         &rt,
         ENTER,
@@ -220,7 +227,7 @@ fn who_comes_into_a_core_and_leaves_it(rt: HostRuntime) -> Result<(), Fail> {
           batch 1 added 2 removed 0 kept 0 edges 4 top 2\nenter 10\nenter 20\nenter 30\n\
           batch 2 added 0 removed 1 kept 0 edges 3 top 1\nleave 10\nleave 20\nleave 30\n\
           batch 3 added 0 removed 1 kept 1 overruled 1 edges 2 top 1\n",
-    )?;
+    );
     check_with(
         &rt,
         BOTH,
@@ -229,11 +236,11 @@ fn who_comes_into_a_core_and_leaves_it(rt: HostRuntime) -> Result<(), Fail> {
           batch 1 added 2 removed 0 kept 0 edges 4 top 2\n5 - 1\n10 1 2\n20 1 2\n30 1 2\nenter 5\n\
           batch 2 added 0 removed 1 kept 0 edges 3 top 1\n10 2 1\n20 2 1\n30 2 1\n\
           batch 3 added 0 removed 1 kept 1 overruled 1 edges 2 top 1\n7 - 0\n20 1 0\nleave 20\n",
-    )
+    );
 }
 
 #[test]
-fn questions(rt: HostRuntime) -> Result<(), Fail> {
+fn questions(rt: HostRuntime) {
     let start = b"graph vertices 4 edges 4 top 2\n";
     check(
         &rt,
@@ -241,7 +248,7 @@ fn questions(rt: HostRuntime) -> Result<(), Fail> {
         b"graph vertices 4 edges 4 top 2\n\
           core 10 2\ncore 7 1\ncore 99 -\nmembers 2 10 20 30\nmembers 1 7 10 20 30\nmembers 3\nsizes 1 1 2 3\n\
           batch 1 added 0 removed 0 kept 0 edges 4 top 2\n",
-    )?;
+    );
     // A question speaks of the last batch that has ended, and ends none.
     check(
         &rt,
@@ -253,7 +260,7 @@ fn questions(rt: HostRuntime) -> Result<(), Fail> {
           batch 2 added 0 removed 2 kept 0 edges 1 top 1\n\
           core 3 0\nsizes 0 1 1 2\nmembers 0 1 2 3\n\
           batch 3 added 0 removed 0 kept 0 edges 1 top 1\n",
-    )?;
+    );
     // Who is asked for is not named: the graph has no vertex more.
     check(
         &rt,
@@ -263,19 +270,19 @@ fn questions(rt: HostRuntime) -> Result<(), Fail> {
           batch 1 added 0 removed 0 kept 0 edges 0 top 0\n\
           core 5 -\n\
           batch 2 added 0 removed 0 kept 0 edges 0 top 0\n",
-    )?;
-    check_refused(&rt, b"1 2\n? 1\nbatch\n", b"", 2, Kind::UpdateOutsideBatch)?;
+    );
+    check_refused(&rt, b"1 2\n? 1\nbatch\n", b"", 2, Kind::UpdateOutsideBatch);
     check_refused(
         &rt,
         b"30 20\n20 10\n10 30\n7 10\nbatch\n?\n",
         start,
         6,
         Kind::MissingField,
-    )
+    );
 }
 
 #[test]
-fn orders(rt: HostRuntime) -> Result<(), Fail> {
+fn orders(rt: HostRuntime) {
     // A path, whose ends go first. The batch that is open makes it a ring, of which all go at once.
     check(
         &rt,
@@ -285,7 +292,7 @@ fn orders(rt: HostRuntime) -> Result<(), Fail> {
           batch 1 added 1 removed 0 kept 0 edges 5 top 2\n\
           order 4 3 after\norder 1 5 before\n\
           batch 2 added 0 removed 0 kept 0 edges 5 top 2\n",
-    )?;
+    );
     // A triangle that an id of core number 1 hangs on, and ids that are not known yet.
     check(
         &rt,
@@ -295,42 +302,59 @@ fn orders(rt: HostRuntime) -> Result<(), Fail> {
           batch 1 added 1 removed 0 kept 0 edges 5 top 2\n\
           order 7 9 before\n\
           batch 2 added 0 removed 0 kept 0 edges 5 top 2\n",
-    )?;
-    check_refused(&rt, b"1 2\n? order 1 2\n", b"", 2, Kind::UpdateOutsideBatch)
+    );
+    check_refused(&rt, b"1 2\n? order 1 2\n", b"", 2, Kind::UpdateOutsideBatch);
 }
 
-#[test]
-fn wrong_orders(rt: HostRuntime) -> Result<(), Fail> {
-    let start = b"graph vertices 0 edges 0 top 0\n";
-    check_refused(&rt, b"batch\n? order", start, 2, Kind::MissingField)?;
-    check_refused(&rt, b"batch\n? order 1\n", start, 2, Kind::MissingField)?;
-    check_refused(&rt, b"batch\n? order x 1 2\n", start, 2, Kind::NotANumber)?;
-    check_refused(&rt, b"batch\n? order 1 x 2\n", start, 2, Kind::NotANumber)?;
-    check_refused(&rt, b"batch\n? order 1 2 x\n", start, 2, Kind::ExtraField)?;
-    check_refused(
-        &rt,
+/// A stream of which a line is refused, what it is answered, which line that is, and what is wrong.
+type Refused = (&'static [u8], &'static [u8], u64, Kind);
+
+/// What a batch on no edges is answered before it ends.
+const NO_EDGES: &[u8] = b"graph vertices 0 edges 0 top 0\n";
+
+/// Wrong questions about the order.
+const FAULTY_ORDERS: [Refused; 6] = [
+    (b"batch\n? order", NO_EDGES, 2, Kind::MissingField),
+    (b"batch\n? order 1\n", NO_EDGES, 2, Kind::MissingField),
+    (b"batch\n? order x 1 2\n", NO_EDGES, 2, Kind::NotANumber),
+    (b"batch\n? order 1 x 2\n", NO_EDGES, 2, Kind::NotANumber),
+    (b"batch\n? order 1 2 x\n", NO_EDGES, 2, Kind::ExtraField),
+    (
         b"batch\n? order 1 4294967296\n",
-        start,
+        NO_EDGES,
         2,
         Kind::NumberTooLarge,
-    )
+    ),
+];
+
+#[test]
+fn wrong_orders(rt: HostRuntime) {
+    for (stream, wanted, line, kind) in &FAULTY_ORDERS {
+        check_refused(&rt, stream, wanted, *line, *kind);
+    }
+}
+
+/// Other wrong questions.
+const FAULTY_QUESTIONS: [Refused; 8] = [
+    (b"batch\n? x y z\n? 1\n", NO_EDGES, 2, Kind::NotANumber),
+    (b"batch\n? 1 2", NO_EDGES, 2, Kind::ExtraField),
+    (b"batch\n? core", NO_EDGES, 2, Kind::MissingField),
+    (b"batch\n? core 1 2", NO_EDGES, 2, Kind::ExtraField),
+    (b"batch\n? sizes 1", NO_EDGES, 2, Kind::ExtraField),
+    (b"batch\n? 4294967296", NO_EDGES, 2, Kind::NumberTooLarge),
+    (b"? x\n", b"", 1, Kind::NotANumber),
+    (b"batch\n?1\n", NO_EDGES, 2, Kind::NotANumber),
+];
+
+#[test]
+fn wrong_questions(rt: HostRuntime) {
+    for (stream, wanted, line, kind) in &FAULTY_QUESTIONS {
+        check_refused(&rt, stream, wanted, *line, *kind);
+    }
 }
 
 #[test]
-fn wrong_questions(rt: HostRuntime) -> Result<(), Fail> {
-    let start = b"graph vertices 0 edges 0 top 0\n";
-    check_refused(&rt, b"batch\n? x y z\n? 1\n", start, 2, Kind::NotANumber)?;
-    check_refused(&rt, b"batch\n? 1 2", start, 2, Kind::ExtraField)?;
-    check_refused(&rt, b"batch\n? core", start, 2, Kind::MissingField)?;
-    check_refused(&rt, b"batch\n? core 1 2", start, 2, Kind::ExtraField)?;
-    check_refused(&rt, b"batch\n? sizes 1", start, 2, Kind::ExtraField)?;
-    check_refused(&rt, b"batch\n? 4294967296", start, 2, Kind::NumberTooLarge)?;
-    check_refused(&rt, b"? x\n", b"", 1, Kind::NotANumber)?;
-    check_refused(&rt, b"batch\n?1\n", start, 2, Kind::NotANumber)
-}
-
-#[test]
-fn refused_batches(rt: HostRuntime) -> Result<(), Fail> {
+fn refused_batches(rt: HostRuntime) {
     // Nothing of the batch is entered: no edge, and no id that it named. What follows it is told of the graph of before.
     check_dropped(
         &rt,
@@ -340,7 +364,7 @@ fn refused_batches(rt: HostRuntime) -> Result<(), Fail> {
           batch 2 added 2 removed 0 kept 0 edges 3 top 2\n1 1 2\n2 1 2\n3 - 2\n\
           batch 3 added 0 removed 1 kept 0 edges 2 top 1\n1 2 1\n2 2 1\n3 2 1\n",
         1,
-    )?;
+    );
     // The first refused line is told. What follows it is passed over, but for questions and the next batch.
     check_dropped(
         &rt,
@@ -350,7 +374,7 @@ fn refused_batches(rt: HostRuntime) -> Result<(), Fail> {
           refused batch 1 line 5 kind 1 NotANumber\n\
           refused batch 2 line 14 kind 8 EdgeLineInBatch\n",
         2,
-    )?;
+    );
     // A wrong question drops its batch, too, and the end of the stream ends one.
     check_dropped(
         &rt,
@@ -360,7 +384,7 @@ fn refused_batches(rt: HostRuntime) -> Result<(), Fail> {
           batch 2 added 0 removed 0 kept 0 edges 0 top 0\n\
           refused batch 3 line 8 kind 2 MissingField\n",
         2,
-    )?;
+    );
     // In the edges of the start there is no batch that could be dropped.
     check_ended(
         &rt,
@@ -371,7 +395,7 @@ fn refused_batches(rt: HostRuntime) -> Result<(), Fail> {
             line: 2,
             kind: Kind::NotANumber,
         },
-    )?;
+    );
     check_ended(
         &rt,
         DROPS,
@@ -381,12 +405,12 @@ fn refused_batches(rt: HostRuntime) -> Result<(), Fail> {
             line: 2,
             kind: Kind::UpdateOutsideBatch,
         },
-    )?;
+    );
     // Where no line is refused, all is as it is otherwise.
     check_dropped(
         &rt,
         b"1 2\nbatch\n",
         b"graph vertices 2 edges 1 top 1\nbatch 1 added 0 removed 0 kept 0 edges 1 top 1\n",
         0,
-    )
+    );
 }
