@@ -192,10 +192,9 @@ fn a_vertex_is_read_in_the_section_that_puts_it(rt: HostRuntime) -> Result<(), F
     seal(&rt, &words, &mut writer, &mut pass, section, 1);
     let (late, stands) = read_two(&rt, &words, &mut pass);
     assert!(rt; stood == stands && !stands);
-    let stale = stale_now(&words, &mut pass, &early, [1, 1, 0]);
-    assert_eq!(rt; stale, stale_place(0, 0, 1));
-    let stale = stale_now(&words, &mut pass, &late, [1, 1, 0]);
-    assert_eq!(rt; stale, None);
+    let first = stale_now(&words, &mut pass, &early, [1, 1, 0]);
+    let second = stale_now(&words, &mut pass, &late, [1, 1, 0]);
+    assert_eq!(rt; (first, second), (stale_place(0, 0, 1), None));
     Ok(())
 }
 
@@ -220,21 +219,21 @@ fn a_vertex_is_put_and_put_back(rt: HostRuntime) -> Result<(), Fail> {
     put_in_section(&rt, &words, &mut writer, &mut pass, back);
     let (late, stands) = read_two(&rt, &words, &mut pass);
     assert!(rt; stood == stands && stands);
-    let stale = stale_now(&words, &mut pass, &early, [2, 2, 0]);
-    assert_eq!(rt; stale, stale_place(0, 0, 2));
-    let stale = stale_now(&words, &mut pass, &late, [2, 2, 0]);
-    assert_eq!(rt; stale, None);
+    let first = stale_now(&words, &mut pass, &early, [2, 2, 0]);
+    let second = stale_now(&words, &mut pass, &late, [2, 2, 0]);
+    assert_eq!(rt; (first, second), (stale_place(0, 0, 2), None));
     Ok(())
 }
 
-/// What is told of a list of no neighbours that a vertex had after so many entries, where the edge stamps are 2, 2 and 0.
-fn stale_list_now<R: Abort + AllocGlobal>(
+/// This is told of a list of no neighbours that a vertex had after so many entries, where the edge stamps are 2, 2 and 0.
+fn assert_list_now<R: Abort + AllocGlobal>(
     rt: &R,
     words: &Words,
     pass: &mut Pass,
     vertex: u32,
     at: u32,
-) -> Option<Stale>
+    wanted: Option<Stale>,
+)
     requires table { pass.old.table ≡ words.now }
     requires shape { words.now.shape.fixed ≡ 3 }
     requires vertex { vertex < 3 }
@@ -243,7 +242,8 @@ fn stale_list_now<R: Abort + AllocGlobal>(
     let Ok(used) = read_list(rt.alloc(), vertex, at) else {
         panic!(rt; "no memory");
     };
-    stale_now(words, pass, &used, [2, 2, 0])
+    let stale = stale_now(words, pass, &used, [2, 2, 0]);
+    assert_eq!(rt; stale, wanted);
 }
 
 /// Lists that were read before the first entry, between the first and the second, and behind the last that changes their edges.
@@ -251,16 +251,11 @@ fn lists_of_three_entries<R: Abort + AllocGlobal>(rt: &R, words: &Words, pass: &
     requires table { pass.old.table ≡ words.now }
     requires shape { words.now.shape.fixed ≡ 3 }
 {
-    let first = stale_list_now(rt, words, pass, 0, 0);
-    let second = stale_list_now(rt, words, pass, 1, 1);
-    let third = stale_list_now(rt, words, pass, 0, 2);
-    let fourth = stale_list_now(rt, words, pass, 0, 3);
-    let fifth = stale_list_now(rt, words, pass, 2, 0);
-    assert_eq!(rt; first, stale_list(0, 0, 2));
-    assert_eq!(rt; second, stale_list(1, 1, 2));
-    assert_eq!(rt; third, None);
-    assert_eq!(rt; fourth, None);
-    assert_eq!(rt; fifth, None);
+    assert_list_now(rt, words, pass, 0, 0, stale_list(0, 0, 2));
+    assert_list_now(rt, words, pass, 1, 1, stale_list(1, 1, 2));
+    assert_list_now(rt, words, pass, 0, 2, None);
+    assert_list_now(rt, words, pass, 0, 3, None);
+    assert_list_now(rt, words, pass, 2, 0, None);
 }
 
 /// The list is as it was, and the edge stamp is not. The third entry removes what is not there, so it is no vertex's stamp.
