@@ -51,9 +51,12 @@ fn stand<K: Name, R: Abort>(rt: &R, dag: &Dag<K>, pass: &mut Pass, order: (u32, 
     requires vertices { (order.0 < K.opened.table.shape.items) × (order.1 < K.opened.table.shape.items) × (order.2 < K.opened.table.shape.items) }
     ensures { pass.new.table ≡ K.opened.table }
 {
-    assert_eq!(rt; dag.precedes(pass, order.0, order.1), Answer::Before);
-    assert_eq!(rt; dag.precedes(pass, order.1, order.2), Answer::Before);
-    assert_eq!(rt; dag.precedes(pass, order.2, order.0), Answer::After);
+    let answers = [
+        dag.precedes(pass, order.0, order.1),
+        dag.precedes(pass, order.1, order.2),
+        dag.precedes(pass, order.2, order.0),
+    ];
+    assert_eq!(rt; answers, [Answer::Before, Answer::Before, Answer::After]);
 }
 
 /// Arcs among three vertices: each moves what it has to, a cycle is named, and an arc that stands changes nothing.

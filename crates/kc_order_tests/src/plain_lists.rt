@@ -84,8 +84,13 @@ fn check_opening(rt: &impl Abort, order: &PlainOrder, items: u32, bottom: u32)
     let first = ItemWord::of(order.word(1));
     assert!(rt; 1 <= first.group && first.group <= items + 1);
     let group = GroupWord::of(order.word(items + first.group));
-    assert_eq!(rt; (first.bottom, group.top), (bottom, 137_438_953_472));
-    assert_eq!(rt; (order.writes().len(), order.highest()), (0, 0));
+    let opened = (
+        first.bottom,
+        group.top,
+        order.writes().len(),
+        order.highest(),
+    );
+    assert_eq!(rt; opened, (bottom, 137_438_953_472, 0, 0));
 }
 
 #[test]
@@ -155,11 +160,9 @@ fn check_neighbours(rt: &impl Abort, order: &PlainOrder, x: u32, y: u32)
     requires y_within { y < order.now.items }
 {
     assert!(rt; order.present(x) && order.present(y));
-    assert_eq!(rt; order.after(x), Some(y));
-    assert_eq!(rt; order.before(y), Some(x));
+    assert_eq!(rt; (order.after(x), order.before(y)), (Some(y), Some(x)));
     assert!(rt; x != y);
-    assert!(rt; order.precedes(x, y));
-    assert!(rt; !order.precedes(y, x));
+    assert!(rt; order.precedes(x, y) && !order.precedes(y, x));
 }
 
 /// How often calls made new labels, and the most writes of one that made none for groups.
@@ -337,8 +340,7 @@ fn check_respread(rt: &impl Abort, order: &mut PlainOrder, plain: &mut Vec<u32>)
 {
     let relabels = split_the_last(rt, order, plain);
     check_order(rt, order, plain);
-    assert_eq!(rt; relabels.splits, 7);
-    assert_eq!(rt; relabels.respreads, 1);
+    assert_eq!(rt; (relabels.splits, relabels.respreads), (7, 1));
 }
 
 #[test]

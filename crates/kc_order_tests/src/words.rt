@@ -18,9 +18,12 @@ fn the_words_have_their_layouts(rt: HostRuntime) {
     let vertex = VertexWord { stamp: 7, core: 2 };
     let packed = [item.pack(), group.pack(), vertex.pack()];
     assert_eq!(rt; packed, [274_877_915_139, 274_877_906_949, 30_064_771_074]);
-    assert_eq!(rt; ItemWord::of(274_877_915_139), item);
-    assert_eq!(rt; GroupWord::of(274_877_906_949), group);
-    assert_eq!(rt; VertexWord::of(30_064_771_074), vertex);
+    let read = (
+        ItemWord::of(274_877_915_139),
+        GroupWord::of(274_877_906_949),
+        VertexWord::of(30_064_771_074),
+    );
+    assert_eq!(rt; read, (item, group, vertex));
 }
 
 /// A note is packed to this word, and read back from it.
@@ -58,8 +61,7 @@ fn a_table_of_two_items_has_seven_words(rt: HostRuntime) {
         shape.group(3),
         shape.vertex(0),
     ];
-    assert_eq!(rt; places, [2, 3, 5, 6]);
-    assert_eq!(rt; shape.words(), 7);
+    assert_eq!(rt; (places, shape.words()), ([2, 3, 5, 6], 7));
 }
 
 #[test]
