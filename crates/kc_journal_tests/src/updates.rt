@@ -1,5 +1,5 @@
 //! Updates of small graphs, worked out by hand: each is planned over a journal that is held, and entered in it.
-ghost use Rattle.std.specs.Prelude.{◌≡◌, ◌<◌, ◌≤◌, IfOk, OnOk};
+ghost use Rattle.std.specs.Prelude.{◌≡◌, ◌<◌, ◌≤◌, IfOk};
 ghost use Rattle.kc_graph.specs.Certificate.{Certifies};
 ghost use Rattle.kc_levels.specs.Levels.{size_of};
 ghost use Rattle.kc_journal.specs.Entering.{MayEnter};
@@ -12,7 +12,6 @@ use kc_view::Scratch;
 use kc_words::{INDICES, LAST_VERSION, VERTICES};
 use std::alloc::Global;
 use std::process::Abort;
-use std::test::Fail;
 
 /// A graph to begin with, by its edges, and its core numbers and order.
 #[derive(Clone, Copy)]
@@ -146,18 +145,13 @@ const ROWS: [Row; 6] = [
 ];
 
 /// The core numbers and the order certify each other in a graph, which is no larger than a journal's.
-fn assert_certified<R: Abort + AllocGlobal>(
-    rt: &R,
-    graph: &Graph,
-    core: &[u32],
-    order: &[u32],
-) -> Result<(), Fail>
-    ensures few { OnOk result (graph.now.size ≤ VERTICES) }
-    ensures certified { OnOk result (Certifies graph.now core.now order.now) }
+fn assert_certified<R: Abort + AllocGlobal>(rt: &R, graph: &Graph, core: &[u32], order: &[u32])
+    ensures few { graph.now.size ≤ VERTICES }
+    ensures certified { Certifies graph.now core.now order.now }
 {
     assert!(rt; graph.vertices() <= VERTICES);
-    assert!(rt; check(rt.alloc(), graph, core, order)?);
-    Ok(())
+    let is_certified = check(rt.alloc(), graph, core, order).expect(rt, "no memory");
+    assert!(rt; is_certified);
 }
 
 /// A graph, with core numbers and an order that certify each other in it.
@@ -171,15 +165,15 @@ fn lawful_of(alloc: Global, graph: Graph, core: &[u32], order: &[u32]) -> Result
 }
 
 /// The graph of a start, with its core numbers and its order.
-fn state_of<R: Abort + AllocGlobal>(rt: &R, start: Start) -> Result<Lawful, Fail>
-    ensures { IfOk result (λ lawful. lawful.graph.size ≤ VERTICES) }
+fn state_of<R: Abort + AllocGlobal>(rt: &R, start: Start) -> Lawful
+    ensures { result.graph.size ≤ VERTICES }
 {
     assert!(rt; start.core.len() <= VERTICES as usize);
     let vertices = start.core.len() as u32;
     assert!(rt; start.edges.iter().all(|(u, v)| u < v && *v < vertices));
-    let graph = Graph::from_pairs(rt.alloc(), vertices, start.edges)?;
-    assert_certified(rt, &graph, start.core, start.order)?;
-    Ok(lawful_of(rt.alloc(), graph, start.core, start.order)?)
+    let graph = Graph::from_pairs(rt.alloc(), vertices, start.edges).expect(rt, "no memory");
+    assert_certified(rt, &graph, start.core, start.order);
+    lawful_of(rt.alloc(), graph, start.core, start.order).expect(rt, "no memory")
 }
 
 /// A journal with the words and a pass of its table.
@@ -194,27 +188,27 @@ struct Run {
 
 impl Run {
     /// A run that begins so, in a table with this version.
-    fn open<R: Abort + AllocGlobal>(rt: &R, start: Start, version: u32) -> Result<Run, Fail>
+    fn open<R: Abort + AllocGlobal>(rt: &R, start: Start, version: u32) -> Run
         requires { version ≤ LAST_VERSION }
     {
-        let state = state_of(rt, start)?;
-        let (words, journal, pass) = Journal::open(rt.alloc(), state, version)?;
-        Ok(Run {
+        let opened = Journal::open(rt.alloc(), state_of(rt, start), version);
+        let (words, journal, pass) = opened.expect(rt, "no memory");
+        Run {
             words,
             journal,
             pass,
-        })
+        }
     }
 
     /// The plan of an update.
-    fn plan<R: Abort + AllocGlobal>(&self, rt: &R, update: Update) -> Result<Plan, Fail>
-        ensures { IfOk result (MayEnter self.now.journal) }
+    fn plan<R: Abort + AllocGlobal>(&self, rt: &R, update: Update) -> Plan
+        ensures { MayEnter self.now.journal result }
     {
         let vertices = self.journal.vertices();
         assert!(rt; update.v < vertices);
-        let scratch = Scratch::new(rt.alloc(), vertices)?;
+        let scratch = Scratch::new(rt.alloc(), vertices).expect(rt, "no memory");
         let (planned, _) = plan_held(rt.alloc(), &self.journal, scratch, update);
-        Ok(planned?)
+        planned.expect(rt, "a plan")
     }
 
     /// Enters the update of a plan. Whatever comes of it, a plan that might be entered may still be.
@@ -228,11 +222,10 @@ impl Run {
     }
 
     /// Goes on in a fresh table.
-    fn renew<R: AllocGlobal>(&mut self, rt: &R) -> Result<(), Fail> {
-        let (words, pass) = self.journal.renew(rt.alloc(), 0)?;
+    fn renew<R: Abort + AllocGlobal>(&mut self, rt: &R) {
+        let (words, pass) = self.journal.renew(rt.alloc(), 0).expect(rt, "no memory");
         self.words = words;
         self.pass = pass;
-        Ok(())
     }
 }
 
@@ -284,6 +277,12 @@ fn stand(alloc: Global, journal: &Journal, core: &[u32], order: &[u32]) -> Resul
     Ok(have_numbers(journal, core) && stands.as_slice() == order)
 }
 
+/// The vertices have these core numbers and stand in this order.
+fn assert_stand<R: Abort + AllocGlobal>(rt: &R, journal: &Journal, core: &[u32], order: &[u32]) {
+    let stand = stand(rt.alloc(), journal, core, order).expect(rt, "no memory");
+    assert!(rt; stand);
+}
+
 /// An update of two vertices.
 fn update_of(add: bool, ends: (u32, u32)) -> Update
     requires { ends.0 < ends.1 }
@@ -306,70 +305,63 @@ fn is_first(entered: &Entered) -> bool {
 }
 
 /// The plan of a row has its moves, is local, and is entered first; the journal is then as the row says.
-fn enter_planned<R: Abort + AllocGlobal>(
-    rt: &R,
-    run: &mut Run,
-    plan: &Plan,
-    row: &Row,
-) -> Result<(), Fail>
+fn enter_planned<R: Abort + AllocGlobal>(rt: &R, run: &mut Run, plan: &Plan, row: &Row)
     requires { MayEnter run.old.journal plan.now }
 {
-    assert!(rt; are_moves(&plan.moves, row.moves));
-    assert!(rt; local_check(rt.alloc(), &run.journal, plan)?);
-    assert!(rt; is_first(&run.enter(7, plan)?));
-    assert!(rt; stand(rt.alloc(), &run.journal, row.core, row.order)?);
-    Ok(())
+    let is_local = local_check(rt.alloc(), &run.journal, plan).expect(rt, "no memory");
+    assert!(rt; is_local && are_moves(&plan.moves, row.moves));
+    let entered = run.enter(7, plan).expect(rt, "a first entry");
+    assert!(rt; is_first(&entered));
+    assert_stand(rt, &run.journal, row.core, row.order);
 }
 
 /// The update of a row is planned and entered.
-fn plan_row<R: Abort + AllocGlobal>(rt: &R, run: &mut Run, row: &Row) -> Result<(), Fail> {
+fn plan_row<R: Abort + AllocGlobal>(rt: &R, run: &mut Run, row: &Row) {
     assert!(rt; row.ends.0 < row.ends.1);
-    let plan = run.plan(rt, update_of(row.add, row.ends))?;
-    enter_planned(rt, run, &plan, row)
+    let plan = run.plan(rt, update_of(row.add, row.ends));
+    enter_planned(rt, run, &plan, row);
 }
 
 /// A run is opened, and the update of a row is planned and entered in it.
-fn enter_row<R: Abort + AllocGlobal>(rt: &R, row: &Row) -> Result<(), Fail> {
-    let mut run = Run::open(rt, row.start, 0)?;
-    plan_row(rt, &mut run, row)
+fn enter_row<R: Abort + AllocGlobal>(rt: &R, row: &Row) {
+    let mut run = Run::open(rt, row.start, 0);
+    plan_row(rt, &mut run, row);
 }
 
 #[test]
-fn updates_are_planned_and_entered(rt: HostRuntime) -> Result<(), Fail> {
+fn updates_are_planned_and_entered(rt: HostRuntime) {
     for row in &ROWS {
-        enter_row(&rt, row)?;
+        enter_row(&rt, row);
     }
-    Ok(())
 }
 
 /// The journal is that of two edges of which the first is gone.
-fn assert_parted<R: Abort + AllocGlobal>(rt: &R, journal: &Journal) -> Result<(), Fail> {
+fn assert_parted<R: Abort + AllocGlobal>(rt: &R, journal: &Journal) {
     let entry = Entry {
         index: 0,
         add: false,
         u: 0,
         v: 1,
     };
-    assert!(rt; stand(rt.alloc(), journal, &[0, 0, 1, 1], &[0, 1, 2, 3])?);
-    assert!(rt; journal.edge_stamps().as_slice() == [1, 1, 0, 0].as_slice());
-    assert!(rt; journal.entries() == [entry].as_slice());
-    Ok(())
+    assert_stand(rt, journal, &[0, 0, 1, 1], &[0, 1, 2, 3]);
+    let left = (journal.edge_stamps().as_slice(), journal.entries());
+    assert!(rt; left == ([1, 1, 0, 0].as_slice(), [entry].as_slice()));
 }
 
 /// The first of the two edges goes. A plan that might be entered may still be.
-fn part<R: Abort + AllocGlobal>(rt: &R, run: &mut Run) -> Result<(), Fail>
+fn part<R: Abort + AllocGlobal>(rt: &R, run: &mut Run)
     ensures { (other : Plan) → MayEnter run.old.journal other → MayEnter run.new.journal other }
 {
-    let early = run.plan(rt, update_of(false, (0, 1)))?;
-    assert!(rt; run.enter(0, &early)?.receipt.applied);
-    Ok(())
+    let early = run.plan(rt, update_of(false, (0, 1)));
+    let entered = run.enter(0, &early).expect(rt, "an entry");
+    assert!(rt; entered.receipt.applied);
 }
 
 /// A plan that has read the first of the two edges is stale once that edge is gone.
-fn assert_stale<R: Abort + AllocGlobal>(rt: &R, run: &mut Run, late: &Plan) -> Result<(), Fail>
+fn assert_stale<R: Abort + AllocGlobal>(rt: &R, run: &mut Run, late: &Plan)
     requires { MayEnter run.old.journal late.now }
 {
-    part(rt, run)?;
+    part(rt, run);
     let stale = EnterFault::Stale {
         vertex: 0,
         edges: true,
@@ -377,20 +369,20 @@ fn assert_stale<R: Abort + AllocGlobal>(rt: &R, run: &mut Run, late: &Plan) -> R
         now: 1,
     };
     assert_eq!(rt; run.enter(1, late).err(), Some(stale));
-    assert_parted(rt, &run.journal)
+    assert_parted(rt, &run.journal);
 }
 
 /// A plan is made, and is stale when it is entered.
-fn enter_late<R: Abort + AllocGlobal>(rt: &R, run: &mut Run) -> Result<(), Fail> {
-    let late = run.plan(rt, update_of(true, (0, 2)))?;
-    assert_stale(rt, run, &late)
+fn enter_late<R: Abort + AllocGlobal>(rt: &R, run: &mut Run) {
+    let late = run.plan(rt, update_of(true, (0, 2)));
+    assert_stale(rt, run, &late);
 }
 
 /// A plan has read an edge that is gone when it is entered.
 #[test]
-fn a_plan_is_stale(rt: HostRuntime) -> Result<(), Fail> {
-    let mut run = Run::open(&rt, EDGES, 0)?;
-    enter_late(&rt, &mut run)
+fn a_plan_is_stale(rt: HostRuntime) {
+    let mut run = Run::open(&rt, EDGES, 0);
+    enter_late(&rt, &mut run);
 }
 
 /// The plan of an update is made and entered, at this place.
@@ -400,52 +392,49 @@ fn assert_entered<R: Abort + AllocGlobal>(
     index: u32,
     update: Update,
     place: u32,
-) -> Result<(), Fail>
+)
     requires index { index < INDICES }
 {
-    let plan = run.plan(rt, update)?;
-    assert!(rt; run.enter(index, &plan)?.receipt.place == place);
-    Ok(())
+    let plan = run.plan(rt, update);
+    let entered = run.enter(index, &plan).expect(rt, "an entry");
+    assert_eq!(rt; entered.receipt.place, place);
 }
 
 /// The versions do not last for a move.
-fn assert_spent<R: Abort + AllocGlobal>(rt: &R, run: &mut Run) -> Result<(), Fail> {
-    let plan = run.plan(rt, update_of(true, (0, 2)))?;
+fn assert_spent<R: Abort + AllocGlobal>(rt: &R, run: &mut Run) {
+    let plan = run.plan(rt, update_of(true, (0, 2)));
     let spent = EnterFault::Spent {
         highest: LAST_VERSION - 1,
         needed: 3,
     };
     assert_eq!(rt; run.enter(5, &plan).err(), Some(spent));
-    Ok(())
 }
 
 /// The journal goes on as it was.
-fn assert_renewed<R: Abort + AllocGlobal>(rt: &R, journal: &Journal) -> Result<(), Fail> {
+fn assert_renewed<R: Abort + AllocGlobal>(rt: &R, journal: &Journal) {
     assert!(rt; journal.edge_stamps().as_slice() == [0, 1, 1, 0].as_slice());
-    assert!(rt; stand(rt.alloc(), journal, &[1, 1, 1, 1], &[0, 1, 2, 3])?);
-    Ok(())
+    assert_stand(rt, journal, &[1, 1, 1, 1], &[0, 1, 2, 3]);
 }
 
 /// The move is made.
-fn assert_moved<R: Abort + AllocGlobal>(rt: &R, journal: &Journal) -> Result<(), Fail> {
+fn assert_moved<R: Abort + AllocGlobal>(rt: &R, journal: &Journal) {
     assert!(rt; journal.edge_stamps().as_slice() == [2, 1, 2, 0].as_slice());
-    assert!(rt; stand(rt.alloc(), journal, &[1, 1, 1, 1], &[1, 0, 2, 3])?);
-    Ok(())
+    assert_stand(rt, journal, &[1, 1, 1, 1], &[1, 0, 2, 3]);
 }
 
 /// The edge in the middle of the path goes, and then the versions are spent. In a fresh table the move is made.
-fn spend_and_renew<R: Abort + AllocGlobal>(rt: &R, run: &mut Run) -> Result<(), Fail> {
-    assert_entered(rt, run, 4, update_of(false, (1, 2)), 1)?;
-    assert_spent(rt, run)?;
-    run.renew(rt)?;
-    assert_renewed(rt, &run.journal)?;
-    assert_entered(rt, run, 5, update_of(true, (0, 2)), 2)?;
-    assert_moved(rt, &run.journal)
+fn spend_and_renew<R: Abort + AllocGlobal>(rt: &R, run: &mut Run) {
+    assert_entered(rt, run, 4, update_of(false, (1, 2)), 1);
+    assert_spent(rt, run);
+    run.renew(rt);
+    assert_renewed(rt, &run.journal);
+    assert_entered(rt, run, 5, update_of(true, (0, 2)), 2);
+    assert_moved(rt, &run.journal);
 }
 
 /// The versions of a table are spent after an entry. The journal goes on as it was in a fresh table, which has versions again.
 #[test]
-fn a_fresh_table_has_versions_again(rt: HostRuntime) -> Result<(), Fail> {
-    let mut run = Run::open(&rt, PATH, LAST_VERSION - 1)?;
-    spend_and_renew(&rt, &mut run)
+fn a_fresh_table_has_versions_again(rt: HostRuntime) {
+    let mut run = Run::open(&rt, PATH, LAST_VERSION - 1);
+    spend_and_renew(&rt, &mut run);
 }
