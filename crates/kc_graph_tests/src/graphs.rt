@@ -49,8 +49,7 @@ fn updates_tell_whether_they_changed_the_graph(rt: HostRuntime) {
 
 /// A decomposition has these core numbers, so many edges, and a place for each vertex.
 fn assert_decomposition<R: Abort>(rt: &R, lawful: &Lawful, core: &[u32], edges: u64) {
-    assert_eq!(rt; lawful.core(), core);
-    assert_eq!(rt; lawful.graph().edges(), edges);
+    assert_eq!(rt; (lawful.core(), lawful.graph().edges()), (core, edges));
     for v in 0..lawful.graph().vertices() {
         assert_eq!(rt;
             lawful.order().get(lawful.place(v) as usize).copied(),

@@ -10,39 +10,35 @@ use std::process::Abort;
 use std::test::Fail;
 use std::thread::Threads;
 
-/// The rounds of this graph, where its numbers are these.
-fn rounds_of<R: Abort + AllocGlobal + Threads + Sync>(
+/// The numbers of this graph are these, and so many rounds find them.
+fn assert_rounds<R: Abort + AllocGlobal + Threads + Sync>(
     rt: &R,
     vertices: u32,
     edges: &[(u32, u32)],
     core: &[u32],
-) -> Result<u64, NoMemory>
+    rounds: u64,
+)
     requires { All (λ p. (p.0 < p.1) × (p.1 < vertices)) edges.now }
 {
-    let graph = Graph::from_pairs(rt.alloc(), vertices, edges)?;
-    let peeled = peel(rt, rt.alloc(), &graph)?;
-    assert_eq!(rt; peeled.core.as_slice(), core);
-    Ok(peeled.rounds)
+    let graph = Graph::from_pairs(rt.alloc(), vertices, edges).expect(rt, "no memory");
+    let peeled = peel(rt, rt.alloc(), &graph).expect(rt, "no memory");
+    assert_eq!(rt; (peeled.core.as_slice(), peeled.rounds), (core, rounds));
 }
 
 #[test]
-fn rounds_end_with_the_first_that_changes_nothing(rt: HostRuntime) -> Result<(), Fail> {
-    assert_eq!(rt;
-        rounds_of(&rt, 3, &[(0, 1), (1, 2), (0, 2)], &[2, 2, 2])?,
-        1
-    );
-    assert_eq!(rt;
-        rounds_of(&rt, 4, &[(0, 1), (1, 2), (2, 3)], &[1, 1, 1, 1])?,
-        2
-    );
-    assert_eq!(rt; rounds_of(&rt, 0, &[], &[])?, 1);
-    assert_eq!(rt; rounds_of(&rt, 2, &[], &[0, 0])?, 1);
+fn rounds_end_with_the_first_that_changes_nothing(rt: HostRuntime) {
+    assert_rounds(&rt, 3, &[(0, 1), (1, 2), (0, 2)], &[2, 2, 2], 1);
+    assert_rounds(&rt, 4, &[(0, 1), (1, 2), (2, 3)], &[1, 1, 1, 1], 2);
+    assert_rounds(&rt, 0, &[], &[], 1);
+    assert_rounds(&rt, 2, &[], &[0, 0], 1);
     // a star, whose middle falls to 1 in the first round
-    assert_eq!(rt;
-        rounds_of(&rt, 5, &[(0, 2), (1, 2), (2, 3), (2, 4)], &[1, 1, 1, 1, 1])?,
-        2
+    assert_rounds(
+        &rt,
+        5,
+        &[(0, 2), (1, 2), (2, 3), (2, 4)],
+        &[1, 1, 1, 1, 1],
+        2,
     );
-    Ok(())
 }
 
 /// A path of so many vertices: its ends pull the middle down by one vertex a round.
@@ -85,9 +81,8 @@ fn agrees<R: Abort + AllocGlobal + Threads + Sync>(rt: &R, graph: Graph) -> Resu
     assert_eq!(rt; peeled.core.as_slice(), core.as_slice());
     let edges = graph.edges();
     let ranked = lawful(rt.alloc(), graph, peeled.core)?;
-    assert_eq!(rt; ranked.core(), core.as_slice());
-    assert_eq!(rt; ranked.order().len(), core.len());
-    assert_eq!(rt; ranked.graph().edges(), edges);
+    let found = (ranked.core(), ranked.order().len(), ranked.graph().edges());
+    assert_eq!(rt; found, (core.as_slice(), core.len(), edges));
     Ok(())
 }
 
