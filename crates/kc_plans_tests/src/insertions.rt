@@ -1,11 +1,9 @@
 //! Plans of insertions, worked out by hand.
 ghost use Rattle.std.specs.Prelude.{◌<◌, All};
-ghost use Rattle.kc_graph.specs.Certificate.{Certifies};
 
-use kc_cert::check;
-use kc_graph::{Graph, Lawful, Moves, Plan, Update};
-use kc_insert::plan;
-use kc_view::PlainView;
+use crate::planning::{assert_asked, plan_of_edge};
+use crate::states::certified;
+use kc_graph::{Moves, Plan};
 use std::process::Abort;
 
 /// A graph with its core numbers and an order that certifies them.
@@ -18,36 +16,10 @@ struct State<'a> {
     ghost pairs: { All (λ p. (p.0 < p.1) × (p.1 < vertices)) edges.now },
 }
 
-/// The order certifies these core numbers of the graph.
-fn assert_certified<R: Abort + AllocGlobal>(rt: &R, graph: &Graph, core: &[u32], order: &[u32])
-    ensures { Certifies graph.now core.now order.now }
-{
-    let is_certified = check(rt.alloc(), graph, core, order).expect(rt, "no memory");
-    assert!(rt; is_certified);
-}
-
-/// The graph of a state, with its core numbers and its order.
-fn lawful_of<R: Abort + AllocGlobal>(rt: &R, state: &State<'_>) -> Lawful {
-    let graph = Graph::from_pairs(rt.alloc(), state.vertices, state.edges);
-    let graph = graph.expect(rt, "no memory");
-    assert_certified(rt, &graph, state.core, state.order);
-    let core = Vec::from_slice(rt.alloc(), state.core).expect(rt, "no memory");
-    let order = Vec::from_slice(rt.alloc(), state.order).expect(rt, "no memory");
-    Lawful::new(rt.alloc(), graph, core, order).expect(rt, "no memory")
-}
-
-/// The plan that adds the edge between `u` and `v` to a graph at rest.
-fn plan_at_rest<R: Abort + AllocGlobal>(rt: &R, lawful: &Lawful, u: u32, v: u32) -> Plan {
-    let mut view = PlainView::new(rt.alloc(), lawful).expect(rt, "no memory");
-    assert!(rt; u < v && v < view.state().graph().vertices());
-    let update = Update { add: true, u, v };
-    plan(rt.alloc(), &mut view, update).expect(rt, "a plan")
-}
-
 /// The plan that adds the edge between `u` and `v`.
 fn plan_of<R: Abort + AllocGlobal>(rt: &R, state: &State<'_>, u: u32, v: u32) -> Plan {
-    let lawful = lawful_of(rt, state);
-    plan_at_rest(rt, &lawful, u, v)
+    let lawful = certified(rt, state.vertices, state.edges, state.core, state.order);
+    plan_of_edge(rt, &lawful, true, u, v)
 }
 
 /// These vertices rise from this level in this order, and these are put behind others.
@@ -64,17 +36,6 @@ fn assert_rise<R: Abort>(rt: &R, plan: &Plan, of: u32, these: &[u32], behind: &[
         }
         _ => panic!(rt; "no vertex rises or is put behind another"),
     }
-}
-
-/// The lists of these vertices were asked, in this order.
-fn assert_asked<R: Abort>(rt: &R, plan: &Plan, lists: &[u32]) {
-    assert!(rt;
-        plan.used
-            .edges
-            .iter()
-            .map(|e| e.vertex)
-            .eq(lists.iter().copied())
-    );
 }
 
 /// The whole of a path rises where its ends are joined.

@@ -25,6 +25,10 @@ mod sequences;
 #[cfg(test)]
 mod shapes;
 #[cfg(test)]
+mod small_sections;
+#[cfg(test)]
+mod states;
+#[cfg(test)]
 mod tally;
 #[cfg(test)]
 mod views;

@@ -34,6 +34,29 @@ pub(crate) fn plan_of<R: Abort + AllocGlobal>(rt: &R, state: &Lawful, update: Up
     plan_over(rt.alloc(), &mut view, update).expect(rt, "a plan")
 }
 
+/// The plan that adds or removes the edge between `u` and `v` in a state.
+pub(crate) fn plan_of_edge<R: Abort + AllocGlobal>(
+    rt: &R,
+    state: &Lawful,
+    add: bool,
+    u: u32,
+    v: u32,
+) -> Plan {
+    assert!(rt; u < v && v < state.graph().vertices());
+    plan_of(rt, state, Update { add, u, v })
+}
+
+/// The lists of these vertices were asked, in this order.
+pub(crate) fn assert_asked<R: Abort>(rt: &R, plan: &Plan, lists: &[u32]) {
+    assert!(rt;
+        plan.used
+            .edges
+            .iter()
+            .map(|e| e.vertex)
+            .eq(lists.iter().copied())
+    );
+}
+
 /// Adds the edges of a graph, all but the one that an update removes, and the one that it adds.
 fn add_updated(after: &mut Graph, graph: &Graph, update: Update) -> Result<(), NoMemory> {
     let keeps = |u: u32, v: u32| update.add || (u, v) != (update.u, update.v);

@@ -1,18 +1,10 @@
 //! Plans of removals, worked out by hand.
 ghost use Rattle.std.specs.Prelude.{◌<◌, All};
 
-use kc_graph::{Graph, Lawful, Moves, Plan, Update, decompose_owned};
-use kc_remove::plan;
-use kc_view::PlainView;
+use crate::planning::{assert_asked, plan_of_edge};
+use crate::states::decomposed;
+use kc_graph::{Moves, Plan};
 use std::process::Abort;
-
-/// The plan that takes the edge between `u` and `v` out of a graph at rest.
-fn plan_at_rest<R: Abort + AllocGlobal>(rt: &R, lawful: &Lawful, u: u32, v: u32) -> Plan {
-    let mut view = PlainView::new(rt.alloc(), lawful).expect(rt, "no memory");
-    assert!(rt; u < v && v < view.state().graph().vertices());
-    let update = Update { add: false, u, v };
-    plan(rt.alloc(), &mut view, update).expect(rt, "a plan")
-}
 
 /// The plan that takes the edge between `u` and `v` out of the graph with these edges.
 fn plan_of<R: Abort + AllocGlobal>(
@@ -24,9 +16,8 @@ fn plan_of<R: Abort + AllocGlobal>(
 ) -> Plan
     requires { All (λ p. (p.0 < p.1) × (p.1 < vertices)) edges.now }
 {
-    let graph = Graph::from_pairs(rt.alloc(), vertices, edges).expect(rt, "no memory");
-    let lawful = decompose_owned(rt.alloc(), graph).expect(rt, "no memory");
-    plan_at_rest(rt, &lawful, u, v)
+    let lawful = decomposed(rt, vertices, edges);
+    plan_of_edge(rt, &lawful, false, u, v)
 }
 
 /// These vertices fall from this level, in this order.
@@ -41,14 +32,8 @@ fn assert_fall<R: Abort>(rt: &R, plan: &Plan, of: u32, these: &[u32]) {
 }
 
 /// The lists of these vertices were asked, in this order, and no order was.
-fn assert_asked<R: Abort>(rt: &R, plan: &Plan, lists: &[u32]) {
-    assert!(rt;
-        plan.used
-            .edges
-            .iter()
-            .map(|e| e.vertex)
-            .eq(lists.iter().copied())
-    );
+fn assert_only_asked<R: Abort>(rt: &R, plan: &Plan, lists: &[u32]) {
+    assert_asked(rt, plan, lists);
     assert!(rt; plan.used.orders.is_empty());
 }
 
@@ -65,14 +50,14 @@ fn assert_middle<R: Abort + AllocGlobal>(rt: &R) {
 fn assert_end<R: Abort + AllocGlobal>(rt: &R) {
     let end = plan_of(rt, 4, &PATH, 0, 1);
     assert_fall(rt, &end, 1, &[0]);
-    assert_asked(rt, &end, &[0, 1]);
+    assert_only_asked(rt, &end, &[0, 1]);
 }
 
 /// An edge that is not there is kept so, and one list tells it.
 fn assert_absent<R: Abort + AllocGlobal>(rt: &R) {
     let absent = plan_of(rt, 4, &PATH, 0, 2);
     assert!(rt; matches!(absent.moves, Moves::Kept));
-    assert_asked(rt, &absent, &[0]);
+    assert_only_asked(rt, &absent, &[0]);
     assert!(rt; absent.used.places.is_empty());
 }
 
@@ -112,7 +97,7 @@ const WHEEL: [(u32, u32); 12] = [
 fn a_rim_edge_of_a_wheel(rt: HostRuntime) {
     let plan = plan_of(&rt, 7, &WHEEL, 0, 1);
     assert_fall(&rt, &plan, 3, &[0, 1, 5, 2, 4, 3, 6]);
-    assert_asked(&rt, &plan, &[0, 1, 5, 6, 2, 4, 3]);
+    assert_only_asked(&rt, &plan, &[0, 1, 5, 6, 2, 4, 3]);
 }
 
 /// The vertex that two triangles share keeps two neighbours.
@@ -121,5 +106,5 @@ fn an_edge_of_one_of_two_triangles(rt: HostRuntime) {
     let edges = [(0, 1), (0, 2), (1, 2), (2, 3), (2, 4), (3, 4)];
     let plan = plan_of(&rt, 5, &edges, 0, 1);
     assert_fall(&rt, &plan, 2, &[0, 1]);
-    assert_asked(&rt, &plan, &[0, 1, 2]);
+    assert_only_asked(&rt, &plan, &[0, 1, 2]);
 }

@@ -61,17 +61,24 @@ fn make_plan<R: Abort + AllocGlobal>(
     Ok(())
 }
 
-/// A walk over the levels finds the order of a state, and each vertex at the level of its core number.
-fn assert_levels_of<R: Abort>(rt: &R, levels: &Levels, state: &Lawful, vertices: u32)
+/// A walk over the levels finds the vertices in this order.
+pub(crate) fn assert_walk<R: Abort>(rt: &R, levels: &Levels, vertices: u32, order: &[u32])
     requires { vertices ≡ size_of levels.now }
 {
     let mut at = levels.first();
-    for v in state.order() {
+    for v in order {
         assert_eq!(rt; at, Some(*v));
         assert!(rt; *v < vertices);
         at = levels.next(*v);
     }
     assert_eq!(rt; at, None);
+}
+
+/// A walk over the levels finds the order of a state, and each vertex at the level of its core number.
+fn assert_levels_of<R: Abort>(rt: &R, levels: &Levels, state: &Lawful, vertices: u32)
+    requires { vertices ≡ size_of levels.now }
+{
+    assert_walk(rt, levels, vertices, state.order());
     for v in 0..vertices {
         assert_eq!(rt;
             state.core().get(v as usize).copied(),
@@ -81,7 +88,11 @@ fn assert_levels_of<R: Abort>(rt: &R, levels: &Levels, state: &Lawful, vertices:
 }
 
 /// Levels of a state, after a section that made the moves of a plan.
-fn levels_after<R: Abort + AllocGlobal>(rt: &R, state: &Lawful, plan: &Plan) -> Result<Levels, Fail>
+pub(crate) fn levels_after<R: Abort + AllocGlobal>(
+    rt: &R,
+    state: &Lawful,
+    plan: &Plan,
+) -> Result<Levels, Fail>
     ensures { IfOk result (λ levels. size_of levels ≡ state.now.graph.size) }
 {
     let (words, mut levels) = levels_of(rt, state);

@@ -1,15 +1,14 @@
 //! A view of a graph at rest, each call with its answer.
 ghost use Rattle.std.specs.Prelude.{◌≢◌, ◌<◌};
 
-use kc_graph::{Graph, Lawful, Used, decompose_owned};
+use crate::states::decomposed;
+use kc_graph::{Lawful, Used};
 use kc_view::{PlainView, PlanFault, View, ViewFault, degree_of, is_neighbour};
 use std::process::Abort;
 
 /// A triangle with a tail, and a vertex alone. The core numbers are 2, 2, 2, 1 and 0.
 fn triangle_with_a_tail<R: Abort + AllocGlobal>(rt: &R) -> Lawful {
-    let graph = Graph::from_pairs(rt.alloc(), 5, &[(0, 1), (0, 2), (1, 2), (2, 3)]);
-    let graph = graph.expect(rt, "no memory");
-    decompose_owned(rt.alloc(), graph).expect(rt, "no memory")
+    decomposed(rt, 5, &[(0, 1), (0, 2), (1, 2), (2, 3)])
 }
 
 /// The list of a vertex, and its length as it was told.

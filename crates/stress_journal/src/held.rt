@@ -25,18 +25,23 @@ struct Answers {
     edges: u64,
 }
 
+/// The place stamps of a journal.
+fn place_stamps_of(alloc: Global, journal: &Journal) -> Result<Vec<u32>, NoMemory> {
+    let mut place_stamps = Vec::new(alloc);
+    for v in 0..journal.vertices() {
+        place_stamps.push(journal.place_stamp(v))?;
+    }
+    Ok(place_stamps)
+}
+
 impl Answers {
     /// Those of a journal.
     fn of(alloc: Global, journal: &Journal) -> Result<Answers, NoMemory> {
-        let mut place_stamps = Vec::new(alloc);
-        for v in 0..journal.vertices() {
-            place_stamps.push(journal.place_stamp(v))?;
-        }
         Ok(Answers {
             core: Vec::from_slice(alloc, journal.core_numbers())?,
             order: journal.order(alloc)?,
             edge_stamps: Vec::from_slice(alloc, journal.edge_stamps())?,
-            place_stamps,
+            place_stamps: place_stamps_of(alloc, journal)?,
             entries: Vec::from_slice(alloc, journal.entries())?,
             edges: journal.graph().edges(),
         })

@@ -1,15 +1,12 @@
 //! Sections of small graphs: the moves of whole plans, and moves made one by one.
-ghost use Rattle.std.specs.Prelude.{◌≡◌, ◌<◌, IfOk, false, length};
-ghost use Rattle.kc_graph.specs.Certificate.{Certifies};
-ghost use Rattle.kc_graph.specs.Plans.{state_after};
-ghost use Rattle.kc_levels.specs.Levels.{AreLevels, size_of};
-ghost use Rattle.kc_levels.specs.Makes.{AreLevelsOf};
+ghost use Rattle.std.specs.Prelude.{◌≡◌, ◌<◌, length};
+ghost use Rattle.kc_levels.specs.Levels.{size_of};
 
-use kc_cert::{check, local_check};
-use kc_graph::{Graph, Lawful, Moves, NoMemory, Plan, Update, Used};
-use kc_levels::{LAST_NUMBER, Levels, make_moves, moved_count};
-use kc_table::Words;
-use kc_words::{LAST_VERSION, VERTICES};
+use crate::sections::{assert_walk, levels_after};
+use crate::states::certified;
+use kc_graph::{Lawful, Moves, Plan, Update, Used};
+use kc_levels::Levels;
+use kc_words::VERTICES;
 use std::process::Abort;
 use std::test::Fail;
 
@@ -29,99 +26,47 @@ struct Left<'a> {
     moved: &'a [u32],
 }
 
-/// The order certifies these core numbers of the graph.
-fn assert_certified<R: Abort + AllocGlobal>(
-    rt: &R,
-    graph: &Graph,
-    core: &[u32],
-    order: &[u32],
-) -> Result<(), NoMemory>
-    ensures { IfOk result (λ _. Certifies graph.now core.now order.now) }
-{
-    let is_certified = check(rt.alloc(), graph, core, order)?;
-    assert!(rt; is_certified);
-    Ok(())
-}
-
 /// The graph of a start, with its core numbers and its order.
-fn state_of<R: Abort + AllocGlobal>(rt: &R, start: Start) -> Result<Lawful, NoMemory> {
+fn state_of<R: Abort + AllocGlobal>(rt: &R, start: Start) -> Lawful {
     assert!(rt; start.core.len() <= VERTICES as usize);
     let vertices = start.core.len() as u32;
     assert!(rt; start.edges.iter().all(|(u, v)| u < v && *v < vertices));
-    let graph = Graph::from_pairs(rt.alloc(), vertices, start.edges)?;
-    assert_certified(rt, &graph, start.core, start.order)?;
-    let core = Vec::from_slice(rt.alloc(), start.core)?;
-    let order = Vec::from_slice(rt.alloc(), start.order)?;
-    Lawful::new(rt.alloc(), graph, core, order)
+    certified(rt, vertices, start.edges, start.core, start.order)
 }
 
-/// Levels of a state, over a fresh table.
-fn levels_of<R: Abort + AllocGlobal>(rt: &R, state: &Lawful) -> Result<(Words, Levels), Fail>
-    ensures table { IfOk result (λ r. r.1.table ≡ r.0) }
-    ensures closed { IfOk result (λ r. AreLevels r.1 × (r.1.open_ ≡ false)) }
-    ensures of { IfOk result (λ r. AreLevelsOf state.now r.1) }
+/// One vertex stands before the other.
+fn assert_before<R: Abort>(rt: &R, levels: &Levels, vertices: u32, x: u32, y: u32)
+    requires { vertices ≡ size_of levels.now }
 {
-    let core = state.core();
-    assert!(rt; core.len() <= VERTICES as usize);
-    let stamps = vec![in rt.alloc(); 0u32; core.len()]?;
-    let (words, levels, _) = Levels::open(rt.alloc(), state.order(), core, &stamps, 0, 0)?;
-    Ok((words, levels))
+    assert!(rt; x != y && x < vertices && y < vertices);
+    assert!(rt; levels.precedes(x, y) && !levels.precedes(y, x));
 }
 
-/// Makes the moves of a plan in a section of its own, where the plan passes the local test in the state whose levels these are.
-fn make_plan<R: Abort + AllocGlobal>(
-    rt: &R,
-    words: &Words,
-    levels: &mut Levels,
-    state: &Lawful,
-    plan: &Plan,
-) -> Result<(), Fail>
-    requires table { levels.old.table ≡ words.now }
-    requires closed { AreLevels levels.old × (levels.old.open_ ≡ false) }
-    requires of { AreLevelsOf state.now levels.old }
-    ensures table { levels.new.table ≡ words.now }
-    ensures closed { IfOk result (λ _. AreLevels levels.new × (levels.new.open_ ≡ false)) }
-    ensures of { IfOk result (λ _. AreLevelsOf (state_after plan.now state.now) levels.new) }
+/// Each vertex stands before the next.
+fn assert_ascending<R: Abort>(rt: &R, levels: &Levels, vertices: u32, order: &[u32])
+    requires { vertices ≡ size_of levels.now }
 {
-    let is_local = local_check(rt.alloc(), state, plan)?;
-    if !is_local {
-        return Err("the plan fails the local test".into());
+    for i in 1..order.len() {
+        assert_before(rt, levels, vertices, order[i - 1], order[i]);
     }
-    assert!(rt; levels.number() < LAST_NUMBER);
-    levels.open_section(words, 0, plan.update);
-    let most = moved_count(&plan.moves);
-    assert!(rt; most <= VERTICES as usize);
-    let spent = levels.highest() as usize + 3 * most;
-    if spent > LAST_VERSION as usize {
-        return Err("the versions are spent".into());
-    }
-    make_moves(levels, words, &plan.moves);
-    levels.end_section();
-    Ok(())
 }
 
-/// The vertices stand in this order, each before the next, and at these levels; the last section moved just these.
-fn assert_stand<R: Abort>(rt: &R, levels: &Levels, left: Left)
+/// The vertex stands at this level, and the last section moved it or did not.
+fn assert_vertex<R: Abort>(rt: &R, levels: &Levels, v: u32, level: u32, moved: bool)
+    requires { v < size_of levels.now }
+{
+    let is_moved = levels.stamp(v) == levels.number();
+    assert_eq!(rt; (levels.level_of(v), is_moved), (level, moved));
+    assert!(rt; level <= levels.top());
+}
+
+/// The vertices stand at these levels, and the last section moved just these.
+fn assert_levels<R: Abort>(rt: &R, levels: &Levels, left: Left)
     requires { length left.core.now ≡ size_of levels.now }
 {
-    let mut at = levels.first();
-    for v in left.order {
-        assert_eq!(rt; at, Some(*v));
-        assert!(rt; (*v as usize) < left.core.len());
-        at = levels.next(*v);
-    }
-    assert_eq!(rt; at, None);
-    for i in 1..left.order.len() {
-        let (x, y) = (left.order[i - 1], left.order[i]);
-        assert!(rt; x != y && (x as usize) < left.core.len() && (y as usize) < left.core.len());
-        assert!(rt; levels.precedes(x, y) && !levels.precedes(y, x));
-    }
-    let number = levels.number();
     for (v, level) in left.core.iter().enumerate() {
-        assert_eq!(rt; levels.level_of(v as u32), *level);
         let moved = left.moved.contains(&(v as u32));
-        assert_eq!(rt; levels.stamp(v as u32) == number, moved);
-        assert!(rt; *level <= levels.top());
+        assert_vertex(rt, levels, v as u32, *level, moved);
     }
     assert!(rt; levels.top() == 0 || left.core.contains(&levels.top()));
 }
@@ -164,15 +109,6 @@ fn fall<R: AllocGlobal>(rt: &R, level: u32, fall: &[u32]) -> Result<Moves, Fail>
     })
 }
 
-/// Levels of a state, after a section that made the moves of a plan.
-fn levels_after<R: Abort + AllocGlobal>(rt: &R, state: &Lawful, plan: &Plan) -> Result<Levels, Fail>
-    ensures { IfOk result (λ levels. size_of levels ≡ state.now.graph.size) }
-{
-    let (words, mut levels) = levels_of(rt, state)?;
-    make_plan(rt, &words, &mut levels, state, plan)?;
-    Ok(levels)
-}
-
 /// The section of a plan leaves what it should of a state.
 fn assert_left<R: Abort + AllocGlobal>(
     rt: &R,
@@ -181,8 +117,11 @@ fn assert_left<R: Abort + AllocGlobal>(
     left: Left,
 ) -> Result<(), Fail> {
     let levels = levels_after(rt, state, plan)?;
-    assert!(rt; left.core.len() == state.graph().vertices() as usize);
-    assert_stand(rt, &levels, left);
+    let vertices = state.graph().vertices();
+    assert!(rt; left.core.len() == vertices as usize);
+    assert_walk(rt, &levels, vertices, left.order);
+    assert_ascending(rt, &levels, vertices, left.order);
+    assert_levels(rt, &levels, left);
     Ok(())
 }
 
@@ -193,7 +132,7 @@ fn assert_section<R: Abort + AllocGlobal>(
     plan: &Plan,
     left: Left,
 ) -> Result<(), Fail> {
-    let state = state_of(rt, start)?;
+    let state = state_of(rt, start);
     assert_left(rt, &state, plan, left)
 }
 
