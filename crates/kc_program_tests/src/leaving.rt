@@ -40,11 +40,8 @@ fn receipts_left<R: Abort + AllocGlobal + Threads + Wait + Sync>(
     tables: usize,
 ) -> Result<Vec<Receipt>, Fail> {
     let left = left_with(rt, workers, input)?;
-    assert_eq!(rt; left.status, Status::Done);
-    assert_eq!(rt;
-        (left.ran.shares.len(), left.ran.tables.len()),
-        (shares, tables)
-    );
+    let found = (left.status, left.ran.shares.len(), left.ran.tables.len());
+    assert_eq!(rt; found, (Status::Done, shares, tables));
     receipts_of(rt.alloc(), &left.ran)
 }
 

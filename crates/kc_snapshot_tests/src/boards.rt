@@ -1,5 +1,6 @@
 //! A board from its opening to its end, in one thread and in many.
 ghost use Rattle.std.specs.Prelude.{◌≡◌, ◌<◌, ◌+◌, ◌≤◌, ◌∷◌, [], All, IfOk, length};
+ghost use Rattle.kc_snapshot.specs.declared.publisher.TheConstants.{MOST_LISTS as MOST_PUBLISHED};
 ghost use Rattle.kc_snapshot.specs.Histories.{member, width};
 
 use kc_snapshot::{Blank, BoardName, Place, Publisher, Read, Reader, open};
@@ -30,6 +31,56 @@ fn one_of<J: BoardName>(readers: &mut Vec<Reader<J>>, first: &[u32]) -> Result<R
     Ok(readers.pop().ok_or("there is no reader left")?)
 }
 
+// A reader finds this list under this number.
+fn assert_cores<J: BoardName, R: Wait + Abort>(
+    rt: &R,
+    reader: &mut Reader<J>,
+    number: u32,
+    core: [u32; 4],
+)
+    requires { width reader.old ≡ 4 }
+{
+    let mut all = [0; 4];
+    let found = reader.cores(rt, &mut all);
+    assert_eq!(rt; (found, all), (number, core));
+}
+
+// A reader that is told what was published finds this list under this number.
+fn assert_told<J: BoardName, R: Wait + Abort>(
+    rt: &R,
+    publisher: &Publisher<J, &R>,
+    reader: &mut Reader<J>,
+    number: u32,
+    core: [u32; 4],
+)
+    requires { width reader.old ≡ 4 }
+{
+    reader.learn(rt, publisher.tell());
+    assert_cores(rt, reader, number, core);
+}
+
+// A reader finds this core number of vertex 0, in the list with this number.
+fn assert_read<J: BoardName, R: Wait + Abort>(rt: &R, reader: &mut Reader<J>, wanted: Read)
+    requires { width reader.old ≡ 4 }
+    ensures { width reader.new ≡ width reader.old }
+{
+    assert_eq!(rt; reader.read(rt, 0), wanted);
+}
+
+// A list that is published gets this number.
+fn publish<J: BoardName, R: Wait + Abort>(
+    rt: &R,
+    publisher: &mut Publisher<J, &R>,
+    core: [u32; 4],
+    number: u32,
+)
+    requires publisher { (length publisher.old < MOST_PUBLISHED) × (width publisher.old ≡ 4) }
+    ensures { width publisher.new ≡ width publisher.old }
+{
+    let published = publisher.publish(rt, &core).expect(rt, "no memory");
+    assert_eq!(rt; published, number);
+}
+
 // What a board shows to one reader that is told, and to one that is not.
 fn see_told_and_not<J: BoardName, R: Wait + Abort>(
     rt: &R,
@@ -42,13 +93,11 @@ fn see_told_and_not<J: BoardName, R: Wait + Abort>(
     let [told, other] = readers else {
         return Err("there are no two readers".into());
     };
-    assert_eq!(rt; told.read(rt, 0), Read { number: 0, core: 1 });
-    assert_eq!(rt; publisher.publish(rt, &CHORDS)?, 1);
+    assert_read(rt, told, Read { number: 0, core: 1 });
+    publish(rt, publisher, CHORDS, 1);
     told.learn(rt, publisher.tell());
-    assert_eq!(rt; told.read(rt, 0), Read { number: 1, core: 2 });
-    let mut all = [0; 4];
-    assert_eq!(rt; other.cores(rt, &mut all), 1);
-    assert_eq!(rt; all, CHORDS);
+    assert_read(rt, told, Read { number: 1, core: 2 });
+    assert_cores(rt, other, 1, CHORDS);
     publisher.covers(told);
     Ok(())
 }
@@ -75,12 +124,10 @@ fn see_changes<J: BoardName, R: Wait + Abort>(
     let [reader] = readers else {
         return Err("there is no reader".into());
     };
-    assert_eq!(rt; publisher.publish_changes(rt, places(alloc)?)?, 1);
-    assert_eq!(rt; publisher.publish(rt, &[1, 2, 0, 2])?, 2);
-    reader.learn(rt, publisher.tell());
-    let mut all = [0; 4];
-    assert_eq!(rt; reader.cores(rt, &mut all), 2);
-    assert_eq!(rt; all, [1, 2, 0, 2]);
+    let changed = publisher.publish_changes(rt, places(alloc)?)?;
+    assert_eq!(rt; changed, 1);
+    publish(rt, publisher, [1, 2, 0, 2], 2);
+    assert_told(rt, publisher, reader, 2, [1, 2, 0, 2]);
     Ok(())
 }
 
@@ -96,11 +143,9 @@ fn see_among<J: BoardName, R: Wait + Abort>(
     let [reader] = readers else {
         return Err("there is no reader".into());
     };
-    assert_eq!(rt; publisher.publish_among(rt, &CHORDS, &[3, 1, 4, 3])?, 1);
-    reader.learn(rt, publisher.tell());
-    let mut all = [0; 4];
-    assert_eq!(rt; reader.cores(rt, &mut all), 1);
-    assert_eq!(rt; all, [1, 2, 1, 2]);
+    let among = publisher.publish_among(rt, &CHORDS, &[3, 1, 4, 3])?;
+    assert_eq!(rt; among, 1);
+    assert_told(rt, publisher, reader, 1, [1, 2, 1, 2]);
     Ok(())
 }
 

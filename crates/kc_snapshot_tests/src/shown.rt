@@ -171,10 +171,11 @@ impl<J: BoardName> Watcher<J> {
         rt: &A,
         run: &mut Run<J, R>,
     ) -> Result<(), Fail> {
-        assert_eq!(rt; self.reader.read(rt, 0), Read { number: 0, core: 1 });
+        let before = self.reader.read(rt, 0);
         run.enter(rt, 0, true, PATH)?;
         run.enter(rt, 1, true, CIRCLE)?;
-        assert_eq!(rt; self.reader.read(rt, 0), Read { number: 0, core: 1 });
+        let after = self.reader.read(rt, 0);
+        assert_eq!(rt; [before, after], [Read { number: 0, core: 1 }; 2]);
         Ok(())
     }
 
@@ -187,10 +188,11 @@ impl<J: BoardName> Watcher<J> {
         core: u32,
     ) {
         self.reader.learn(rt, run.shown.tell());
-        assert_eq!(rt; self.reader.read(rt, 0), Read { number, core });
+        let read = self.reader.read(rt, 0);
         let mut all = [0; 4];
-        assert_eq!(rt; self.reader.cores(rt, &mut all), number);
-        assert_eq!(rt; all, [core; 4]);
+        let found = self.reader.cores(rt, &mut all);
+        let wanted = Read { number, core };
+        assert_eq!(rt; (read, found, all), (wanted, number, [core; 4]));
     }
 
     /// What is seen by who is told: not the entries before they are published, and then all their core numbers.

@@ -91,9 +91,13 @@ fn enter_alone<K: Name + Ledger, R: Wait + Abort + AllocGlobal>(
 
 /// The run has three entries, and a circle.
 fn assert_circle<R: Abort>(rt: &R, parts: &Parts) {
-    assert_eq!(rt; parts.journal.entries().len(), 3);
-    assert_eq!(rt; parts.journal.graph().edges(), 4);
-    assert_eq!(rt; parts.journal.top(), 2);
+    let journal = &parts.journal;
+    let left = (
+        journal.entries().len(),
+        journal.graph().edges(),
+        journal.top(),
+    );
+    assert_eq!(rt; left, (3, 4, 2));
 }
 
 #[test]

@@ -64,7 +64,7 @@ pub(crate) fn enter_all<G: Gate + Sync, R: Threads + Wait + Sync + Abort + Alloc
     let Ok(done) = done else {
         panic!(rt; "no memory")
     };
-    assert_eq!(rt; parts.journal.entries().len(), batch.len());
-    assert_eq!(rt; told(done.shares.as_slice()), batch.len());
+    let entered = (parts.journal.entries().len(), told(done.shares.as_slice()));
+    assert_eq!(rt; entered, (batch.len(), batch.len()));
     (parts, done)
 }

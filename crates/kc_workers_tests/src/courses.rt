@@ -68,6 +68,12 @@ const KEPT: Counts = Counts {
     kept: 1,
 };
 
+/// A course has these core numbers, and so many edges.
+fn assert_course<R: Abort>(rt: &R, course: &Course, core: &[u32], edges: u64) {
+    let has = (course.core_numbers(), course.edges());
+    assert_eq!(rt; has, (core, edges));
+}
+
 /// The path becomes a circle, which an edge that is there leaves as it is, and then a path again.
 fn circle_and_back<R: Abort + AllocGlobal + Threads + Wait + Sync>(
     rt: &R,
@@ -80,9 +86,8 @@ fn circle_and_back<R: Abort + AllocGlobal + Threads + Wait + Sync>(
         v: 3,
     };
     let course = work_one(rt, course, ends, ran, ADDED);
-    assert_eq!(rt; course.core_numbers(), [2, 2, 2, 2].as_slice());
+    assert_course(rt, &course, &[2, 2, 2, 2], 4);
     assert_eq!(rt; course.top(), 2);
-    assert_eq!(rt; course.edges(), 4);
     let course = work_one(rt, course, ends, ran, KEPT);
     let gone = Update {
         add: false,
@@ -90,10 +95,8 @@ fn circle_and_back<R: Abort + AllocGlobal + Threads + Wait + Sync>(
         v: 2,
     };
     let course = work_one(rt, course, gone, ran, REMOVED);
-    assert_eq!(rt; course.core_numbers(), [1, 1, 1, 1].as_slice());
-    assert_eq!(rt; course.top(), 1);
-    assert_eq!(rt; course.edges(), 3);
-    assert_eq!(rt; course.entered(), 3);
+    assert_course(rt, &course, &[1, 1, 1, 1], 3);
+    assert_eq!(rt; (course.top(), course.entered()), (1, 3));
     course
 }
 
@@ -103,9 +106,9 @@ fn are_told_in_turn<R: Abort>(rt: &R, ran: &Ran, count: u32) {
     for share in &ran.shares {
         for done in &share.done {
             assert!(rt; place < count);
-            assert_eq!(rt; done.receipt.index, place);
+            let told = (done.receipt.index, done.receipt.place);
+            assert_eq!(rt; told, (place, place + 1));
             place += 1;
-            assert_eq!(rt; done.receipt.place, place);
         }
     }
     assert_eq!(rt; place, count);
@@ -118,8 +121,8 @@ fn a_run_leaves_its_table_and_the_receipts_of_all_batches(rt: HostRuntime) -> Re
         let course = path(rt.alloc(), workers)?;
         let course = circle_and_back(&rt, course, &mut ran);
         assert!(rt; ended(course, &mut ran));
-        assert_eq!(rt; ran.tables.len(), 1);
-        assert_eq!(rt; ran.shares.len(), 3 * workers as usize);
+        let left = (ran.tables.len(), ran.shares.len());
+        assert_eq!(rt; left, (1, 3 * workers as usize));
         are_told_in_turn(&rt, &ran, 3);
     }
     Ok(())
@@ -142,25 +145,34 @@ fn work_again<R: Abort + AllocGlobal + Threads + Wait + Sync>(
     course
 }
 
-/// With no request for memory refused each batch is worked at once. `rt try --test --fail-alloc N` refuses the one of this number.
-#[test]
-fn a_course_goes_on_where_memory_ran_out(rt: HostRuntime) -> Result<(), Fail> {
-    let mut ran = Ran::new(rt.alloc());
-    let course = path(rt.alloc(), 2)?;
+/// The path becomes a circle, and then a path again.
+fn circle_and_back_again<R: Abort + AllocGlobal + Threads + Wait + Sync>(
+    rt: &R,
+    course: Course,
+    ran: &mut Ran,
+) -> Course {
     let ends = Update {
         add: true,
         u: 0,
         v: 3,
     };
-    let course = work_again(&rt, course, ends, &mut ran);
-    assert_eq!(rt; course.core_numbers(), [2, 2, 2, 2].as_slice());
+    let course = work_again(rt, course, ends, ran);
+    assert_course(rt, &course, &[2, 2, 2, 2], 4);
     let gone = Update {
         add: false,
         u: 1,
         v: 2,
     };
-    let course = work_again(&rt, course, gone, &mut ran);
-    assert_eq!(rt; course.core_numbers(), [1, 1, 1, 1].as_slice());
+    let course = work_again(rt, course, gone, ran);
+    assert_course(rt, &course, &[1, 1, 1, 1], 3);
+    course
+}
+
+/// With no request for memory refused each batch is worked at once. `rt try --test --fail-alloc N` refuses the one of this number.
+#[test]
+fn a_course_goes_on_where_memory_ran_out(rt: HostRuntime) -> Result<(), Fail> {
+    let mut ran = Ran::new(rt.alloc());
+    let course = circle_and_back_again(&rt, path(rt.alloc(), 2)?, &mut ran);
     assert_eq!(rt; course.entered(), 2);
     assert!(rt; ended(course, &mut ran));
     assert_eq!(rt; ran.tables.len(), 1);
@@ -202,8 +214,7 @@ fn work_mixed<R: Abort + AllocGlobal + Threads + Wait + Sync>(
         kept: 2,
     };
     assert_eq!(rt; counts, wanted);
-    assert_eq!(rt; course.edges(), 3);
-    assert_eq!(rt; course.core_numbers(), [1, 1, 1, 1].as_slice());
+    assert_course(rt, &course, &[1, 1, 1, 1], 3);
     Ok(())
 }
 

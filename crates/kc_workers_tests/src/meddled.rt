@@ -160,8 +160,9 @@ fn meddled_run<R: Wait + Abort + AllocGlobal>(rt: &R, most: u32) -> (Done, Parts
 
 /// The run has so many entries, and these edge stamps.
 fn assert_run<R: Abort>(rt: &R, parts: &Parts, entries: usize, stamps: &[u32]) {
-    assert_eq!(rt; parts.journal.entries().len(), entries);
-    assert_eq!(rt; parts.journal.edge_stamps().as_slice(), stamps);
+    let journal = &parts.journal;
+    let left = (journal.entries().len(), journal.edge_stamps().as_slice());
+    assert_eq!(rt; left, (entries, stamps));
 }
 
 /// The miss of a plan that has read the list of vertex 0 under this number.

@@ -103,17 +103,16 @@ fn work<R: Threads + Wait + Sync + Abort + AllocGlobal>(
     let graph = Graph::new(rt.alloc(), VERTICES)?;
     let batch = drawn_batch(rt.alloc(), u64::from(count))?;
     let (parts, done) = entered(rt, graph, count, version, &batch);
-    assert_eq!(rt; parts.journal.entries().len(), UPDATES as usize);
-    assert_eq!(rt; done.shares.len(), count as usize);
+    let entered = (parts.journal.entries().len(), done.shares.len());
+    assert_eq!(rt; entered, (UPDATES as usize, count as usize));
     assert_replayed(rt, &parts);
     Ok(done.ended.len())
 }
 
 #[test]
 fn each_update_is_entered_once(rt: HostRuntime) -> Result<(), Fail> {
-    assert_eq!(rt; work(&rt, 1, 0)?, 0);
-    assert_eq!(rt; work(&rt, 8, 0)?, 0);
-    assert_eq!(rt; work(&rt, 64, 0)?, 0);
+    let ended = [work(&rt, 1, 0)?, work(&rt, 8, 0)?, work(&rt, 64, 0)?];
+    assert_eq!(rt; ended, [0, 0, 0]);
     Ok(())
 }
 

@@ -1,7 +1,8 @@
 //! A run on two edges, and an update of one of its workers.
 ghost use Rattle.std.specs.Prelude.{◌≡◌, ◌<◌};
 
-use kc_graph::{Graph, Update, decompose_owned};
+use crate::shared_runs::run_of;
+use kc_graph::Update;
 use kc_journal::Receipt;
 use kc_shared::Parts;
 use kc_table::{Name, Pass, Words, shape};
@@ -14,9 +15,7 @@ use std::sync::ledger::{Ledger, Share};
 pub(crate) fn two_edges<R: Abort + AllocGlobal>(rt: &R) -> (Parts, Pass)
     ensures { result.1.table ≡ result.0.words }
 {
-    let graph = Graph::from_pairs(rt.alloc(), 4, &[(0, 1), (2, 3)]).expect(rt, "no memory");
-    let lawful = decompose_owned(rt.alloc(), graph).expect(rt, "no memory");
-    Parts::open(rt.alloc(), lawful, 0).expect(rt, "no memory")
+    run_of(rt, 4, &[(0, 1), (2, 3)])
 }
 
 /// A worker that has seen what the pass has.
