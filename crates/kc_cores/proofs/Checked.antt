@@ -181,20 +181,20 @@ module _ {I C O : Type 0} (source : sources.Ghosts I) (behind : I → List ℕ �
     }
 
     -- a run that checks a certificate for a stream has ended as it should
-    pub EndsAsAsked-stream : (wish : Wish) (name : List ℕ) (file : Option (List ℕ)) (end : CoresStatus) (line : List ℕ) (i i' : I) (c c' : C) (o o' : O)
-        (l l' : L) → wish ≡ ChecksStream name file → StreamChecked source behind kept beside out name file end line i i' c c' o o' → l' ≡ l
+    pub EndsAsAsked-stream : (wish : Wish) (name : List ℕ) (files : List (List ℕ)) (end : CoresStatus) (line : List ℕ) (i i' : I) (c c' : C) (o o' : O)
+        (l l' : L) → wish ≡ ChecksStream name files → StreamChecked source behind kept beside out name files end line i i' c c' o o' → l' ≡ l
         → EndsAsAsked source behind kept beside out gone wire wish end line i i' c c' o o' l l'
-    EndsAsAsked-stream wish name file end line i i' c c' o o' l l' is h stays = record {
+    EndsAsAsked-stream wish name files end line i i' c c' o o' l l' is h stays = record {
       check = λ n f e. absurd (cc);
       stream = λ n f e.
           let p : name ≡ n = cc in
-          let q : file ≡ f = cc in (
+          let q : files ≡ f = cc in (
             subst (λ (x : List ℕ). StreamChecked source behind kept beside out x f end line i i' c c' o o') p
-                (subst (λ (x : Option (List ℕ)). StreamChecked source behind kept beside out name x end line i i' c c' o o') q h),
+                (subst (λ (x : List (List ℕ)). StreamChecked source behind kept beside out name x end line i i' c c' o o') q h),
             stays,
           );
       watch = λ options e. absurd (cc);
-      other = λ _ none _. absurd (none name file is);
+      other = λ _ none _. absurd (none name files is);
     }
 
     -- a run that answers a stream has ended as it should
@@ -217,7 +217,7 @@ module _ {I C O : Type 0} (source : sources.Ghosts I) (behind : I → List ℕ �
         → EndsAsAsked source behind kept beside out gone wire wish end line i i' c c' o o' l l'
     EndsAsAsked-reply wish r end line i i' c c' o o' l l' replies h same stays memory = record {
       check = λ name graph e. (go r name graph (subst (RepliesTo r) e replies) memory, stays);
-      stream = λ name file e. (sweep r name file (subst (RepliesTo r) e replies) memory, stays);
+      stream = λ name files e. (sweep r name files (subst (RepliesTo r) e replies) memory, stays);
       watch = λ options e. stream r options (subst (RepliesTo r) e replies) memory;
       other = λ _ _ _. (h, same, stays);
     }
@@ -231,14 +231,14 @@ module _ {I C O : Type 0} (source : sources.Ghosts I) (behind : I → List ℕ �
             let (is, told, one, three) = memory refl in
             no_words name graph end line i i' c c' o o' is told one same three
 
-        sweep : (r : Reply) (name : List ℕ) (file : Option (List ℕ)) → RepliesTo r (ChecksStream name file)
+        sweep : (r : Reply) (name : List ℕ) (files : List (List ℕ)) → RepliesTo r (ChecksStream name files)
             → (r ≡ reply.NoMemory → (end ≡ status.NoMemory) × (line ≡ no_memory_line) × (i' ≡ i) × (o' ≡ o))
-            → StreamChecked source behind kept beside out name file end line i i' c c' o o'
-        sweep (reply.Asked text) name file replies memory = absurd replies
-        sweep (reply.Mistake text) name file replies memory = absurd replies
-        sweep reply.NoMemory name file replies memory =
+            → StreamChecked source behind kept beside out name files end line i i' c c' o o'
+        sweep (reply.Asked text) name files replies memory = absurd replies
+        sweep (reply.Mistake text) name files replies memory = absurd replies
+        sweep reply.NoMemory name files replies memory =
             let (is, told, one, three) = memory refl in
-            StreamChecked-nothing source behind kept beside out name file end line i i' c c' o o' is told one same three
+            StreamChecked-nothing source behind kept beside out name files end line i i' c c' o o' is told one same three
 
         stream : (r : Reply) (options : WatchOptions) → RepliesTo r (Watches options)
             → (r ≡ reply.NoMemory → (end ≡ status.NoMemory) × (line ≡ no_memory_line) × (i' ≡ i) × (o' ≡ o))

@@ -19,9 +19,9 @@ pub record EndsAsAsked {I C O L : Type 0} (source : sources.Ghosts I) (behind : 
     (told : List ℕ) (i i' : I) (c c' : C) (o o' : O) (l l' : L) : Type 0 where
   pub check : (name : List ℕ) (graph : GraphText) → wish ≡ Checks name graph
       → CheckEnded source behind kept beside out name graph end told i i' c c' o o' × (l' ≡ l)
-  pub stream : (name : List ℕ) (file : Option (List ℕ)) → wish ≡ ChecksStream name file
-      → StreamChecked source behind kept beside out name file end told i i' c c' o o' × (l' ≡ l)
+  pub stream : (name : List ℕ) (files : List (List ℕ)) → wish ≡ ChecksStream name files
+      → StreamChecked source behind kept beside out name files end told i i' c c' o o' × (l' ≡ l)
   pub watch : (options : WatchOptions) → wish ≡ Watches options → WatchEnded wire options end told l l' × (i' ≡ i) × (c' ≡ c) × (o' ≡ o)
   pub other : ((name : List ℕ) (graph : GraphText) → wish ≡ Checks name graph → ⊥)
-      → ((name : List ℕ) (file : Option (List ℕ)) → wish ≡ ChecksStream name file → ⊥) → ((options : WatchOptions) → wish ≡ Watches options → ⊥)
+      → ((name : List ℕ) (files : List (List ℕ)) → wish ≡ ChecksStream name files → ⊥) → ((options : WatchOptions) → wish ≡ Watches options → ⊥)
       → CoresEnded source behind out gone wish end told i i' o o' × (c' ≡ c) × (l' ≡ l)

@@ -22,7 +22,7 @@ abbrev pub given_bytes : {I : Type 0} → (I → Option (List ℕ)) → (I → L
 given_bytes left behind (Asks query) i = known_bytes left behind query.graph.file i
 given_bytes left behind (Saves name query) i = None
 given_bytes left behind (Checks name graph) i = None
-given_bytes left behind (ChecksStream name file) i = None
+given_bytes left behind (ChecksStream name files) i = None
 given_bytes left behind (Watches options) i = None
 given_bytes left behind (Replies kinds) i = None
 
@@ -33,7 +33,7 @@ IsAnswerTo (Asks query) known text summary =
     × ((what : Option Foreign) × IsForeignBy query.graph.dialect known what × IsTextFor query bytes what text summary)
 IsAnswerTo (Saves name query) known text summary = ⊥
 IsAnswerTo (Checks name graph) known text summary = ⊥
-IsAnswerTo (ChecksStream name file) known text summary = ⊥
+IsAnswerTo (ChecksStream name files) known text summary = ⊥
 IsAnswerTo (Watches options) known text summary = ⊥
 IsAnswerTo (Replies kinds) known text summary = ⊥
 
@@ -50,7 +50,7 @@ abbrev pub IsOutputFor : Wish → Option (List ℕ) → List ℕ → Type 0
 IsOutputFor (Asks query) known text = (summary : List ℕ) × IsAnswerTo (Asks query) known text summary
 IsOutputFor (Saves name query) known text = ⊥
 IsOutputFor (Checks name graph) known text = ⊥
-IsOutputFor (ChecksStream name file) known text = ⊥
+IsOutputFor (ChecksStream name files) known text = ⊥
 IsOutputFor (Watches options) known text = ⊥
 IsOutputFor (Replies kinds) known text = MayReply true (Replies kinds)
 

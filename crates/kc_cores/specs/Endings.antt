@@ -1,18 +1,21 @@
 -- Where a run ends, and what is replied to words.
-use Rattle.std.specs.Prelude.{◌≡◌, ◌⊎◌, ◌≤◌, ℕ, Bool, Result, Err, List, [], length, take, Option, Some, IfSome, false, option_map, string_bytes, true, ⊤}
+use Rattle.std.specs.Prelude.{◌≡◌, ◌⊎◌, ◌≤◌, ℕ, Bool, Result, Err, List, [], length, take, Option, Some, IfSome, false, map, option_map}
+use Rattle.std.specs.Prelude.{slice_get, string_bytes, true, ⊤}
 use Rattle.std.specs.Io.KnownBytes.{Appends}
 use Rattle.kc_io.specs.Causes.{Rose}
 use Rattle.clap.specs.declared.error.kind.ErrorKind.{ErrorKind}
 use Rattle.kc_text.specs.declared.refusal.Refusal.{Refusal}
-use Rattle.kc_claims.specs.LineFaults.{HasFaultyLine}
+use Rattle.kc_claims.specs.Certificates.{AreCertificate, TellCoreNumbers}
+use Rattle.kc_claims.specs.Pieces.{HasFaultyPiece}
+use Rattle.kc_claims.specs.Streams.{HoldsOfStream, IsFaultOfStream}
 use Rattle.kc_claims.specs.declared.claim.Claim.{Claim}
 use Rattle.kc_claims.specs.declared.fault.ClaimFault.{ClaimFault}
 use Rattle.kc_claims.specs.declared.fault.FaultyLine.{FaultyLine}
 use Rattle.kc_cores.specs.Answers.{IsRefusedBy}
-use Rattle.kc_cores.specs.CheckEnded.{certificate_meaning}
+use Rattle.kc_cores.specs.CheckEnded.{AreClaimsOf, certificate_meaning}
 use Rattle.kc_cores.specs.CoresEnded.{IsUnopenedLine}
 use Rattle.kc_cores.specs.Sentences.{GraphRefusal, no_memory_line, read_fault_line, refused_line, write_fault_line}
-use Rattle.kc_cores.specs.StreamChecked.{IsFaultyLine, faulty_line}
+use Rattle.kc_cores.specs.StreamChecked.{IsPieceOf, IsStreamText, faulty_line, files_for, is_several}
 use Rattle.kc_cores.specs.Verdicts.{claim_refused_line, fault_line, no_line}
 use Rattle.kc_cores.specs.Wishes.{Asks, Checks, ChecksStream, GraphText, MayReply, Query, Saves, Watches, Wish, is_shown}
 use Rattle.kc_cores.specs.declared.CoresStatus.{CoresStatus}
@@ -134,38 +137,48 @@ abbrev pub HasNoVerdict : Ending → List ℕ → GraphText → Option (List ℕ
 HasNoVerdict ending name graph known certificate i i' c c' =
     (HasNoClaims ending name certificate c c' × (i' ≡ i)) ⊎ (HasNoFileGraph ending graph known i i' × (c' ≡ c))
 
--- why there is no answer of a stream: its file was not opened, a line of it is wrong, it was not read, or there is no memory
-abbrev pub NoStreamAt : CoresStatus → List ℕ → Option (List ℕ) → Option (List ℕ) → Option (List ℕ) → ℕ → ℕ → Type 0
-NoStreamAt status.Unopened line file known certificate before after =
-    (name : List ℕ) × (fault : FileFault) × (file ≡ Some name) × IsUnopenedLine name fault line × Rose before after
-NoStreamAt status.Refused line file known certificate before after = IsFaultyLine file known certificate line × (after ≡ before)
-NoStreamAt status.ReadFault line file known certificate before after = (line ≡ read_fault_line) × Rose before after
-NoStreamAt status.NoMemory line file known certificate before after = (line ≡ no_memory_line) × (after ≡ before)
-NoStreamAt _ line file known certificate before after = ⊥
+-- why a piece of a stream was not taken, for these claims: its file was not opened, a line of it is wrong, it was not read, or there is no memory
+abbrev pub NoPieceFor : CoresStatus → List ℕ → Bool → Option (List ℕ) → List Claim → Option (List ℕ) → Option (List ℕ) → ℕ → ℕ → Type 0
+NoPieceFor status.Unopened line several file claims before known faults faults' =
+    (name : List ℕ) × (fault : FileFault) × (file ≡ Some name) × IsUnopenedLine name fault line × Rose faults faults'
+NoPieceFor status.Refused line several file claims before known faults faults' =
+    ((faulty : FaultyLine) × (line ≡ faulty_line several file faulty) × HasFaultyPiece claims before known faulty) × (faults' ≡ faults)
+NoPieceFor status.ReadFault line several file claims before known faults faults' = (line ≡ read_fault_line) × Rose faults faults'
+NoPieceFor status.NoMemory line several file claims before known faults faults' = (line ≡ no_memory_line) × (faults' ≡ faults)
+NoPieceFor _ line several file claims before known faults faults' = ⊥
 
--- why there is no answer of a stream that was opened, for these claims
-abbrev pub NoStreamFor : CoresStatus → List ℕ → Option (List ℕ) → List Claim → Option (List ℕ) → ℕ → ℕ → Type 0
-NoStreamFor status.Refused line file claims known before after =
-    ((faulty : FaultyLine) × (line ≡ faulty_line file faulty) × HasFaultyLine claims known faulty) × (after ≡ before)
-NoStreamFor status.ReadFault line file claims known before after = (line ≡ read_fault_line) × Rose before after
-NoStreamFor status.NoMemory line file claims known before after = (line ≡ no_memory_line) × (after ≡ before)
-NoStreamFor _ line file claims known before after = ⊥
+-- the claims are a certificate of the graph of a stream, whose text is that of files or what an input has left
+abbrev pub IsCertifiedStream : {I : Type 0} → (I → Option (List ℕ)) → (I → List ℕ → Option (List ℕ)) → I → List (List ℕ) → List Claim → Type 0
+IsCertifiedStream left behind i files claims =
+    (known : Option (List ℕ)) × IsStreamText left behind i files known
+    × HoldsOfStream (λ ids g. AreCertificate ids g claims × TellCoreNumbers ids g claims) known
+
+-- they are none of such a stream, and this shows it
+abbrev pub IsFaultOfFiles : {I : Type 0} → (I → Option (List ℕ)) → (I → List ℕ → Option (List ℕ)) → I → List (List ℕ) → List Claim → ClaimFault → Type 0
+IsFaultOfFiles left behind i files claims fault =
+    (n : ℕ) × (known : Option (List ℕ)) × IsStreamText left behind i (files_for fault n files) known × IsFaultOfStream claims fault known
+
+-- why a stream has no answer, for these claims: so it is at the piece at some place
+abbrev pub NoStreamFor : {I : Type 0} → (I → Option (List ℕ)) → (I → List ℕ → Option (List ℕ)) → I → CoresStatus → List ℕ → List (List ℕ) → List Claim → ℕ → ℕ
+    → Type 0
+NoStreamFor left behind i end line files claims faults faults' =
+    (n : ℕ) × (before : Option (List ℕ)) × (known : Option (List ℕ)) × IsPieceOf left behind i files n before known
+    × NoPieceFor end line (is_several files) (slice_get files n) claims before known faults faults'
 
 -- the run ends since there is no answer of a stream, or no claims, and the input is as it was
-abbrev pub HasNoStreamVerdict : Ending → List ℕ → Option (List ℕ) → Option (List ℕ) → Option (List ℕ) → ℕ → ℕ → ℕ → ℕ → Type 0
-HasNoStreamVerdict ending name file known certificate i i' c c' =
-    (HasNoClaims ending name certificate c c' × (i' ≡ i))
-    ⊎ (NoStreamAt ending.status (line_of ending) file known certificate i i' × (c' ≡ c))
-
--- the file of a stream was not opened
-abbrev pub IsUnopenedAt : CoresStatus → List ℕ → Option (List ℕ) → Type 0
-IsUnopenedAt end line file = (end ≡ status.Unopened) × ((name : List ℕ) × (fault : FileFault) × (file ≡ Some name) × IsUnopenedLine name fault line)
+abbrev pub HasNoStreamVerdict : {I : Type 0} → (I → Option (List ℕ)) → (I → List ℕ → Option (List ℕ)) → I → Ending → List ℕ → List (List ℕ) → Option (List ℕ)
+    → ℕ → ℕ → ℕ → ℕ → Type 0
+HasNoStreamVerdict left behind i ending name files certificate faults faults' c c' =
+    (HasNoClaims ending name certificate c c' × (faults' ≡ faults))
+    ⊎ (((claims : List Claim) × AreClaimsOf certificate claims
+    × NoStreamFor left behind i ending.status (line_of ending) files claims faults faults') × (c' ≡ c))
+    ⊎ ((ending.status ≡ status.NoMemory) × (line_of ending ≡ no_memory_line) × (faults' ≡ faults) × (c' ≡ c))
 
 -- the run ends by this line of a stream, or there is no memory for the message
-abbrev pub TellsFaultyLineAt : CoresStatus → List ℕ → Option (List ℕ) → FaultyLine → Type 0
-TellsFaultyLineAt status.Refused line file faulty = line ≡ faulty_line file faulty
-TellsFaultyLineAt status.NoMemory line file faulty = line ≡ no_memory_line
-TellsFaultyLineAt _ line file faulty = ⊥
+abbrev pub TellsFaultyLineAt : CoresStatus → List ℕ → Bool → Option (List ℕ) → FaultyLine → Type 0
+TellsFaultyLineAt status.Refused line several file faulty = line ≡ faulty_line several file faulty
+TellsFaultyLineAt status.NoMemory line several file faulty = line ≡ no_memory_line
+TellsFaultyLineAt _ line several file faulty = ⊥
 
 -- the run ends since a write failed
 abbrev pub IsCut : Ending → Bool → Type 0
@@ -196,5 +209,5 @@ abbrev pub IsRequestFor : Wanted → Wish → Type 0
 IsRequestFor (wanted.Lines request) wish = wish ≡ Asks (query_of request)
 IsRequestFor (wanted.Save request) wish = wish ≡ Saves request.file.now (query_of request.lines)
 IsRequestFor (wanted.Check request) wish = wish ≡ Checks request.certificate.now (text_of request.graph)
-IsRequestFor (wanted.CheckStream request) wish = wish ≡ ChecksStream request.certificate.now (option_map (λ name. name.now) request.file)
+IsRequestFor (wanted.CheckStream request) wish = wish ≡ ChecksStream request.certificate.now (map (λ name. name.now) request.files.items)
 IsRequestFor (wanted.Watch options) wish = wish ≡ Watches options

@@ -1,12 +1,14 @@
 -- What the words of a run ask for.
 use Rattle.std.specs.Prelude.{◌≡◌, ◌==◌, ◌^◌, ◌&&◌, ℕ, Bool, true, false, not, List, [], ◌∷◌, Option, Some, None, codes, length, nat_eq, nat_lt}
-use Rattle.std.specs.Prelude.{option_map, pos, if◌then◌else◌}
+use Rattle.std.specs.Prelude.{find, is_some, option_map, pos, if◌then◌else◌}
 use Rattle.std.specs.Char.{digit_value}
-use Rattle.std.specs.List.{after_first, before_first, list_all, position_or_len}
+use Rattle.std.specs.List.{after_first, before_first, list_all, list_any, position_or_len}
+use Rattle.std.specs.Option.{option_map_or, option_to_list}
 use Rattle.std.specs.Str.Parse.{digits_value, without_leading_plus}
 use Rattle.std.specs.Str.{bytes_eq}
 use Rattle.clap.specs.Faults.{fault_of}
 use Rattle.clap.specs.Kinds.{IsAmong, Kinds}
+use Rattle.clap.specs.Lexer.{usize_max}
 use Rattle.clap.specs.Simple.{App, new_app, new_rule, on_top, subcommand_of, with_rule, with_subcommand}
 use Rattle.clap.specs.Walk.{Row, Rule, Text, first_of, is_empty}
 use Rattle.clap.specs.declared.builder.action.ArgAction.TheVariants.{Set, SetTrue}
@@ -115,13 +117,17 @@ certificate_rule = record (new_rule (codes "CERTIFICATE")) { required = true }
 abbrev pub stream_flag : Rule
 stream_flag = record (new_rule (codes "stream")) { long = Some (codes "stream"); action = Some SetTrue }
 
+-- `--pieces FILE..`, with one name or more
+abbrev pub pieces_option : Rule
+pieces_option = record (value_option (codes "pieces")) { range = Some (record { start_inclusive = 1; end_inclusive = usize_max }) }
+
 -- the command that checks a certificate, without the name of the file
 abbrev pub certificate_command : App
 certificate_command = with_rule (new_app (codes "check")) certificate_rule
 
 -- the command that checks a certificate
 abbrev pub check_command : App
-check_command = with_rule (with_rule (with_dialect certificate_command) stream_flag) (new_rule (codes "FILE"))
+check_command = with_rule (with_rule (with_rule (with_dialect certificate_command) stream_flag) pieces_option) (new_rule (codes "FILE"))
 
 -- the command with those of all tasks
 abbrev pub with_tasks : App
@@ -156,13 +162,13 @@ pub record Query : Type 0 where
   pub quiet : Bool
 
 -- What words ask for: a task for a graph; or the same, whose lines become the file of this name; or the check of a certificate of this name
--- for the graph of a text; or the same for an ascending stream of a file, or of standard input; or the answer to a stream. Or they ask for help
+-- for the graph of a text; or the same for an ascending stream of files, one after another, or of standard input; or the answer to a stream. Or they ask for help
 -- or the version, or are not right: then there is a reply of one of these kinds, as those of `clap`.
 pub data Wish : Type 0 where
   Asks : Query → Wish
   Saves : Text → Query → Wish
   Checks : Text → GraphText → Wish
-  ChecksStream : Text → Option Text → Wish
+  ChecksStream : Text → List Text → Wish
   Watches : WatchOptions → Wish
   Replies : Kinds → Wish
 
@@ -330,26 +336,43 @@ wish_for (Some task) (Some graph) None output quiet = Replies (ValueValidation �
 wish_for (Some task) (Some graph) (Some format) output quiet =
     wish_to output (record { task = task; graph = graph; format = format; quiet = quiet })
 
+-- all values of an argument, by the matches of a command
+abbrev pub all_of : Text → List Row → List Text
+all_of id rows = option_map_or (λ (r : Row). r.values) (find (λ (r : Row). bytes_eq r.id id) rows) []
+
 -- the check of a certificate for an ascending stream, which is in no dialect
 abbrev pub stream_wish : Text → Option Text → Option Dialect → Wish
-stream_wish name file None = ChecksStream name file
+stream_wish name file None = ChecksStream name (option_to_list file)
 stream_wish name file (Some dialect) = Replies (ValueValidation ∷ [])
 
--- the check of a certificate for the graph of a text, or for the text as an ascending stream
-abbrev pub check_of : Text → GraphText → Bool → Wish
-check_of name graph stream = if stream then stream_wish name graph.file graph.dialect else Checks name graph
+-- whether the name of a file tells another separator than blanks
+abbrev pub tells_separator : Text → Bool
+tells_separator name = not (is_blank_between (separator_of_name name))
 
--- what the command `check` asks for, by the name of the certificate, the text of a graph, and whether it is a stream
-abbrev pub check_wish : Option Text → Option GraphText → Bool → Wish
-check_wish None graph stream = Replies (InvalidSubcommand ∷ [])
-check_wish (Some name) None stream = Replies (ValueValidation ∷ [])
-check_wish (Some name) (Some graph) stream = check_of name graph stream
+-- whether words ask for no other text than those of these files, and none of them is in a dialect
+abbrev pub are_pieces : GraphText → Bool → List Text → Bool
+are_pieces graph stream files = not stream && not (is_some graph.file) && not (is_some graph.dialect) && not (list_any tells_separator files)
+
+-- the check of a certificate for an ascending stream in files, where no other text is asked for
+abbrev pub pieces_wish : Text → GraphText → Bool → List Text → Wish
+pieces_wish name graph stream files = if are_pieces graph stream files then ChecksStream name files else Replies (ValueValidation ∷ [])
+
+-- the check of a certificate for the graph of a text, or for the text as an ascending stream, or for that of files
+abbrev pub check_of : Text → GraphText → Bool → List Text → Wish
+check_of name graph stream [] = if stream then stream_wish name graph.file graph.dialect else Checks name graph
+check_of name graph stream (file ∷ files) = pieces_wish name graph stream (file ∷ files)
+
+-- what the command `check` asks for, by the name of the certificate, the text of a graph, whether it is a stream, and its files
+abbrev pub check_wish : Option Text → Option GraphText → Bool → List Text → Wish
+check_wish None graph stream files = Replies (InvalidSubcommand ∷ [])
+check_wish (Some name) None stream files = Replies (ValueValidation ∷ [])
+check_wish (Some name) (Some graph) stream files = check_of name graph stream files
 
 -- what a command of this name for a text asks for, with these matches
 abbrev pub wish_about : Text → List Row → Wish
 wish_about name rows =
     if bytes_eq name (codes "check")
-    then check_wish (first_of (codes "CERTIFICATE") rows) (text_in rows) (is_set (first_of (codes "stream") rows))
+    then check_wish (first_of (codes "CERTIFICATE") rows) (text_in rows) (is_set (first_of (codes "stream") rows)) (all_of (codes "pieces") rows)
     else wish_for (task_in name rows) (text_in rows) (format_in (first_of (codes "format") rows)) (file_named (first_of (codes "output") rows))
     (is_set (first_of (codes "quiet") rows))
 
@@ -412,6 +435,6 @@ abbrev pub MayReply : Bool → Wish → Type 0
 MayReply shown (Asks query) = ⊥
 MayReply shown (Saves name query) = ⊥
 MayReply shown (Checks name graph) = ⊥
-MayReply shown (ChecksStream name file) = ⊥
+MayReply shown (ChecksStream name files) = ⊥
 MayReply shown (Watches options) = ⊥
 MayReply shown (Replies kinds) = (kind : ErrorKind) × IsAmong kind kinds × (is_shown kind ≡ shown)

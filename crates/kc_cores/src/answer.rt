@@ -139,7 +139,7 @@ fn work<W: AsStr, I: FileInput, C: FileInput, O: PipeSink, E, L: Wire, P: Folder
         Ok(Wanted::Lines(request)) => list(alloc, request, streams),
         Ok(Wanted::Save(request)) => save(alloc, request, &mut streams.input, folder),
         Ok(Wanted::Check(request)) => check(alloc, request, streams),
-        Ok(Wanted::CheckStream(request)) => check_stream(alloc, request, streams),
+        Ok(Wanted::CheckStream(request)) => check_stream(alloc, &request, streams),
         Ok(Wanted::Watch(options)) => watch(alloc, options, &mut streams.wire),
     }
 }

@@ -8,7 +8,7 @@ ghost use Rattle.kc_cores.specs.Endings.{text_of};
 ghost use Rattle.kc_cores.specs.Wishes.{bad_lines_in, bad_lines_of, both_columns, columns_in, columns_of, dialect_by, dialect_of, file_named, ids_in, ids_of};
 ghost use Rattle.kc_cores.specs.Wishes.{ids_option};
 ghost use Rattle.kc_cores.specs.Wishes.{is_blank_between, number_of, separator_in, separator_of, separator_of_file, skip_in, skip_option};
-ghost use Rattle.kc_cores.specs.Wishes.{tells_none, text_by, text_in, text_with, value_option, with_dialect};
+ghost use Rattle.kc_cores.specs.Wishes.{tells_none, tells_separator, text_by, text_in, text_with, value_option, with_dialect};
 
 use crate::request::NamedText;
 use clap::{Arg, ArgAction, ArgMatches, Command};
@@ -231,6 +231,13 @@ fn dialect_of(
         }),
         _ => None,
     }
+}
+
+/// Whether the name of a file tells another separator than blanks.
+pub(crate) fn tells_separator(name: &str) -> bool
+    ensures { result ≡ tells_separator name.now }
+{
+    !is_blank_between(separator_of_name(name.as_bytes()))
 }
 
 /// Whether fields are parted by blanks.

@@ -11,7 +11,8 @@
 //! are known. [`answer_on`](program::answer_on) takes the words of a program's arguments.
 //!
 //! The command `check` reads a certificate beside the graph (`specs/CheckEnded.antt`), and writes whether it shows the core numbers. With
-//! `--stream` it makes no graph, and insists on edges that ascend (`specs/StreamChecked.antt`).
+//! `--stream` it makes no graph, and insists on edges that ascend; with `--pieces` these lie in files that are read one after another
+//! (`specs/StreamChecked.antt`).
 //!
 //! The command `watch` answers a stream on a wire (`specs/WatchEnded.antt`): edges, and then batches of changes, each as soon as it has ended.
 //!

@@ -35,11 +35,11 @@ pub(crate) struct CheckRequest<'a> {
     pub(crate) graph: NamedText<'a>,
 }
 
-/// The check of a certificate for an ascending stream: that of a file, or of standard input where no file is named.
-#[derive(Clone, Copy, Debug)]
+/// The check of a certificate for an ascending stream: that of the files, one after another, or of standard input where none is named.
+#[derive(Drop)]
 pub(crate) struct StreamRequest<'a> {
     pub(crate) certificate: &'a str,
-    pub(crate) file: Option<&'a str>,
+    pub(crate) files: Vec<&'a str>,
 }
 
 /// A task whose lines become a file.
@@ -50,7 +50,7 @@ pub(crate) struct SaveRequest<'a> {
 }
 
 /// What words ask for.
-#[derive(Clone, Copy, Debug)]
+#[derive(Drop)]
 pub(crate) enum Wanted<'a> {
     Lines(Request<'a>),
     Save(SaveRequest<'a>),

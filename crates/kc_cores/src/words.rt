@@ -3,6 +3,8 @@
 //! They are read by `clap`, as a command with a command of its own for each task. What `clap` makes of the words of such a command is a
 //! function of them, on which `specs/Wishes.antt` stands. The texts of help, of the version and about wrong words are those of `clap`.
 ghost use Rattle.std.specs.Prelude.{◌≡◌, ◌∷◌, [], IfErr, IfOk, codes, false, map, option_map};
+ghost use Rattle.std.specs.List.{list_any};
+ghost use Rattle.std.specs.Option.{option_to_list};
 ghost use Rattle.clap.specs.Matches.{found_of};
 ghost use Rattle.clap.specs.Simple.{app_of, new_rule, subcommand_rows_of, with_subcommand};
 ghost use Rattle.clap.specs.Values.{kind_of};
@@ -12,10 +14,13 @@ ghost use Rattle.kc_cores.specs.Wishes.{Replies, bare_command, certificate_comma
 ghost use Rattle.kc_cores.specs.Wishes.{cores_command, edges_flag};
 ghost use Rattle.kc_cores.specs.Wishes.{is_set, level_in, members_command, members_in, members_task, quiet_command, quiet_flag};
 ghost use Rattle.kc_cores.specs.Wishes.{options_in, task_command, task_in, watch_wish, wish_about, wish_by, wish_for, wish_in, wish_of, with_cores};
-ghost use Rattle.kc_cores.specs.Wishes.{stream_flag, stream_wish, wish_to, with_tasks, writing_command};
+ghost use Rattle.kc_cores.specs.Wishes.{all_of, are_pieces, pieces_option, pieces_wish, stream_flag, stream_wish, tells_separator, wish_to, with_tasks};
+ghost use Rattle.kc_cores.specs.Wishes.{writing_command};
 ghost use Rattle.kc_cores.specs.Endings.{IsReplyFor, IsRequestFor, RepliesTo, query_of, text_of};
 
-use crate::dialect_words::{file_named, ids_option, number_of, text_in, with_dialect};
+use crate::dialect_words::{
+    file_named, ids_option, number_of, tells_separator, text_in, with_dialect,
+};
 use crate::output_words::{format_in, format_option, output_option};
 use crate::request::{CheckRequest, NamedText, Request, SaveRequest, StreamRequest, Task, Wanted};
 use crate::watch_words::{options_of, show_in, stream_bad_lines_in, watch_command};
@@ -234,6 +239,19 @@ fn stream_flag<'a>(alloc: Global) -> Arg<'a>
         .help("Makes no graph: each line must be above the one before it, with its lesser id first")
 }
 
+/// The option `--pieces FILE..`.
+fn pieces_option<'a>(alloc: Global) -> Arg<'a>
+    ensures rule { rule_of result ≡ pieces_option }
+    ensures local { result.global ≡ false }
+{
+    Arg::new(alloc, "pieces")
+        .long("pieces")
+        .action(ArgAction::Set)
+        .num_args(1..)
+        .value_name("FILE")
+        .help("As --stream for these files, one after another; as --pieces part-*")
+}
+
 /// The command `check`, without the name of the file.
 fn certificate_command<'a>(alloc: Global) -> Result<Command<'a>, NoMemory>
     ensures app { IfOk result (λ made. app_of made ≡ certificate_command) }
@@ -263,7 +281,8 @@ fn check_command<'a>(alloc: Global) -> Result<Command<'a>, NoMemory>
     ensures local { IfOk result (λ made. (out-Command made).has_globals ≡ false) }
 {
     let command = with_dialect(alloc, certificate_command(alloc)?)?;
-    command.arg(stream_flag(alloc))?.arg(edges_rule(alloc))
+    let streamed = command.arg(stream_flag(alloc))?.arg(pieces_option(alloc))?;
+    streamed.arg(edges_rule(alloc))
 }
 
 /// The command whose words are read.
@@ -417,17 +436,29 @@ fn request_for<'a>(
     Ok(wanted_to(output, lines))
 }
 
-/// What is replied where an ascending stream is to be in a dialect.
+/// What is replied where an ascending stream is to be in a dialect, or beside another text.
 fn wrong_stream(alloc: Global) -> Reply
     ensures { RepliesTo result (Replies (ErrorKind.ValueValidation ∷ [])) }
 {
     match String::from_str(
         alloc,
-        "cores: --stream takes lines of two ids with a blank or a tab between them; leave it out for other tables, or write such lines\n",
+        "cores: --stream and --pieces take lines of two ids with a blank or a tab between them, and one goes without the other and --pieces \
+         without FILE; leave them out for other tables, or write such lines\n",
     ) {
         Ok(text) => Reply::Mistake(text),
         Err(_) => Reply::NoMemory,
     }
+}
+
+/// The file that is named, alone, or none.
+fn one_file<'a>(alloc: Global, file: Option<&'a str>) -> Result<Vec<&'a str>, NoMemory>
+    ensures { IfOk result (λ files. map (λ t. t.now) files.items ≡ option_to_list (option_map (λ t. t.now) file.entry)) }
+{
+    let mut files = Vec::new(alloc);
+    if let Some(name) = file {
+        files.push(name)?;
+    }
+    Ok(files)
 }
 
 /// The check of a certificate for an ascending stream, where it is in no dialect.
@@ -443,49 +474,98 @@ fn stream_for<'a>(
 {
     match graph.dialect {
         Some(_) => Err(wrong_stream(alloc)),
-        None => Ok(Wanted::CheckStream(StreamRequest {
-            certificate,
-            file: graph.file,
-        })),
+        None => match one_file(alloc, graph.file) {
+            Ok(files) => Ok(Wanted::CheckStream(StreamRequest { certificate, files })),
+            Err(_) => Err(Reply::NoMemory),
+        },
     }
 }
 
-/// The check of a certificate for the graph of a text, or for the text as an ascending stream.
+/// Whether a name of these tells another separator than blanks.
+fn any_separator(files: &[&str]) -> bool
+    ensures { result ≡ list_any tells_separator (map (λ t. t.now) files.now) }
+{
+    files.iter().any(|name| tells_separator(name))
+}
+
+/// Whether words ask for no other text than those of these files, and none of them is in a dialect.
+fn are_pieces(graph: NamedText<'_>, stream: bool, files: &[&str]) -> bool
+    ensures { result ≡ are_pieces (text_of graph.entry) stream (map (λ t. t.now) files.now) }
+{
+    !stream && !graph.file.is_some() && !graph.dialect.is_some() && !any_separator(files)
+}
+
+/// The check of a certificate for an ascending stream in files, where no other text is asked for.
+fn pieces_for<'a>(
+    alloc: Global,
+    certificate: &'a str,
+    graph: NamedText<'a>,
+    stream: bool,
+    files: &[&'a str],
+) -> Result<Wanted<'a>, Reply>
+    ensures asks { IfOk result (λ wanted. IsRequestFor wanted
+        (pieces_wish certificate.entry.now (text_of graph.entry) stream (map (λ t. t.now) files.now))) }
+    ensures replies { IfErr result (λ reply. RepliesTo reply
+        (pieces_wish certificate.entry.now (text_of graph.entry) stream (map (λ t. t.now) files.now))) }
+{
+    if !are_pieces(graph, stream, files) {
+        return Err(wrong_stream(alloc));
+    }
+    match Vec::from_slice(alloc, files) {
+        Ok(files) => Ok(Wanted::CheckStream(StreamRequest { certificate, files })),
+        Err(_) => Err(Reply::NoMemory),
+    }
+}
+
+/// The check of a certificate for the graph of a text, or for the text as an ascending stream, or for that of files.
 fn check_of<'a>(
     alloc: Global,
     certificate: &'a str,
     graph: NamedText<'a>,
     stream: bool,
+    files: &[&'a str],
 ) -> Result<Wanted<'a>, Reply>
-    ensures asks { IfOk result (λ wanted. IsRequestFor wanted (check_of certificate.entry.now (text_of graph.entry) stream)) }
-    ensures replies { IfErr result (λ reply. RepliesTo reply (check_of certificate.entry.now (text_of graph.entry) stream)) }
+    ensures asks { IfOk result (λ wanted. IsRequestFor wanted
+        (check_of certificate.entry.now (text_of graph.entry) stream (map (λ t. t.now) files.now))) }
+    ensures replies { IfErr result (λ reply. RepliesTo reply
+        (check_of certificate.entry.now (text_of graph.entry) stream (map (λ t. t.now) files.now))) }
 {
-    if stream {
-        stream_for(alloc, certificate, graph)
-    } else {
-        Ok(Wanted::Check(CheckRequest { certificate, graph }))
+    if !files.is_empty() {
+        return pieces_for(alloc, certificate, graph, stream, files);
     }
+    if stream {
+        return stream_for(alloc, certificate, graph);
+    }
+    Ok(Wanted::Check(CheckRequest { certificate, graph }))
 }
 
-/// What the command `check` asks for, by the name of the certificate, the text of a graph, and whether it is a stream.
+/// What the command `check` asks for, by the name of the certificate, the text of a graph, whether it is a stream, and its files.
 fn check_for<'a>(
     alloc: Global,
     certificate: Option<&'a str>,
     graph: Option<NamedText<'a>>,
     stream: bool,
+    files: &[&'a str],
 ) -> Result<Wanted<'a>, Reply>
     ensures asks { IfOk result (λ wanted. IsRequestFor wanted
-        (check_wish (option_map (λ t. t.now) certificate.entry) (option_map text_of graph.entry) stream)) }
+        (check_wish (option_map (λ t. t.now) certificate.entry) (option_map text_of graph.entry) stream (map (λ t. t.now) files.now))) }
     ensures replies { IfErr result (λ reply. RepliesTo reply
-        (check_wish (option_map (λ t. t.now) certificate.entry) (option_map text_of graph.entry) stream)) }
+        (check_wish (option_map (λ t. t.now) certificate.entry) (option_map text_of graph.entry) stream (map (λ t. t.now) files.now))) }
 {
     let Some(certificate) = certificate else {
         return Err(no_command(alloc));
     };
     match graph {
         None => Err(wrong_value(alloc)),
-        Some(graph) => check_of(alloc, certificate, graph, stream),
+        Some(graph) => check_of(alloc, certificate, graph, stream, files),
     }
+}
+
+/// All values of an argument.
+fn all_of<'b, 'a>(found: &'b ArgMatches<'a>, id: &str) -> &'b [&'a str]
+    ensures { map (λ t. t.now) result.now ≡ all_of id.now (rows_of (found_of found.now)) }
+{
+    found.get_strs(id).unwrap_or(&[])
 }
 
 /// What a command of this name for a text asks for, with these matches.
@@ -496,7 +576,8 @@ fn wanted_of<'a>(alloc: Global, name: &str, found: &ArgMatches<'a>) -> Result<Wa
     let graph = text_in(found);
     if name == "check" {
         let certificate = found.get_str("CERTIFICATE");
-        return check_for(alloc, certificate, graph, is_set(found.get_str("stream")));
+        let stream = is_set(found.get_str("stream"));
+        return check_for(alloc, certificate, graph, stream, all_of(found, "pieces"));
     }
     let task = task_in(name, found);
     let quiet = is_set(found.get_str("quiet"));

@@ -65,7 +65,7 @@ returns-in-Ok-CheckStream-clause-ended g c =
     let ended =
     EndsAsAsked-stream g.I.Source g.I.FileInput.behind g.C.Source g.C.FileInput.behind g.O.Sink g.O.PipeSink.gone
     g.L.Wire (wish_of (map g.W.AsStr.text c.args.words.now)) c.in-Ok-CheckStream.request.certificate.now
-    (option_map (λ name. name.now) c.in-Ok-CheckStream.request.file) c.check_stream.result.status
+    (map (λ name. name.now) c.in-Ok-CheckStream.request.files.items) c.check_stream.result.status
     (line_of c.check_stream.result) c.args.streams.now.input c.check_stream.new.streams.input c.args.streams.now.certificate
     c.check_stream.new.streams.certificate c.args.streams.now.out c.check_stream.new.streams.out c.args.streams.now.wire
     c.check_stream.new.streams.wire asks c.check_stream.ensures.ended c.check_stream.ensures.wire in
