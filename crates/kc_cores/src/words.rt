@@ -4,7 +4,7 @@
 //! function of them, on which `specs/Wishes.antt` stands. The texts of help, of the version and about wrong words are those of `clap`.
 ghost use Rattle.std.specs.Prelude.{◌≡◌, ◌∷◌, [], IfErr, IfOk, codes, false, map, option_map};
 ghost use Rattle.std.specs.List.{list_any};
-ghost use Rattle.std.specs.Option.{option_to_list};
+ghost use Rattle.std.specs.Option.{option_map_or, option_to_list};
 ghost use Rattle.clap.specs.Matches.{found_of};
 ghost use Rattle.clap.specs.Simple.{app_of, new_rule, subcommand_rows_of, with_subcommand};
 ghost use Rattle.clap.specs.Values.{kind_of};
@@ -14,7 +14,7 @@ ghost use Rattle.kc_cores.specs.Wishes.{Replies, bare_command, certificate_comma
 ghost use Rattle.kc_cores.specs.Wishes.{cores_command, edges_flag};
 ghost use Rattle.kc_cores.specs.Wishes.{is_set, level_in, members_command, members_in, members_task, quiet_command, quiet_flag};
 ghost use Rattle.kc_cores.specs.Wishes.{options_in, task_command, task_in, watch_wish, wish_about, wish_by, wish_for, wish_in, wish_of, with_cores};
-ghost use Rattle.kc_cores.specs.Wishes.{all_of, are_pieces, pieces_option, pieces_wish, stream_flag, stream_wish, tells_separator, wish_to, with_tasks};
+ghost use Rattle.kc_cores.specs.Wishes.{are_pieces, pieces_option, pieces_wish, stream_flag, stream_wish, tells_separator, wish_to, with_tasks};
 ghost use Rattle.kc_cores.specs.Wishes.{writing_command};
 ghost use Rattle.kc_cores.specs.Endings.{IsReplyFor, IsRequestFor, RepliesTo, query_of, text_of};
 
@@ -561,11 +561,23 @@ fn check_for<'a>(
     }
 }
 
-/// All values of an argument.
-fn all_of<'b, 'a>(found: &'b ArgMatches<'a>, id: &str) -> &'b [&'a str]
-    ensures { map (λ t. t.now) result.now ≡ all_of id.now (rows_of (found_of found.now)) }
+/// What the command `check` asks for, where no file of a stream may be named.
+fn check_among<'a>(
+    alloc: Global,
+    certificate: Option<&'a str>,
+    graph: Option<NamedText<'a>>,
+    stream: bool,
+    files: Option<&[&'a str]>,
+) -> Result<Wanted<'a>, Reply>
+    ensures asks { IfOk result (λ wanted. IsRequestFor wanted (check_wish (option_map (λ t. t.now) certificate.entry) (option_map text_of graph.entry)
+        stream (option_map_or (λ fs. map (λ t. t.now) fs.now) files.entry []))) }
+    ensures replies { IfErr result (λ reply. RepliesTo reply (check_wish (option_map (λ t. t.now) certificate.entry) (option_map text_of graph.entry)
+        stream (option_map_or (λ fs. map (λ t. t.now) fs.now) files.entry []))) }
 {
-    found.get_strs(id).unwrap_or(&[])
+    match files {
+        Some(files) => check_for(alloc, certificate, graph, stream, files),
+        None => check_for(alloc, certificate, graph, stream, &[]),
+    }
 }
 
 /// What a command of this name for a text asks for, with these matches.
@@ -577,7 +589,7 @@ fn wanted_of<'a>(alloc: Global, name: &str, found: &ArgMatches<'a>) -> Result<Wa
     if name == "check" {
         let certificate = found.get_str("CERTIFICATE");
         let stream = is_set(found.get_str("stream"));
-        return check_for(alloc, certificate, graph, stream, all_of(found, "pieces"));
+        return check_among(alloc, certificate, graph, stream, found.get_strs("pieces"));
     }
     let task = task_in(name, found);
     let quiet = is_set(found.get_str("quiet"));

@@ -1,15 +1,46 @@
 -- The text and the names are those of the rows of the command.
-use Rattle.std.proofs.Common.{◌≡◌, ◌∙◌, Bool, List, Option, ap, codes, cond, false, subst, sym, true}
+use Rattle.std.proofs.Common.{◌≡◌, ◌∙◌, [], Bool, List, None, Option, Some, ap, codes, cond, false, find, map, option_map, refl, subst, sym, true}
 use Rattle.std.specs.Str.{bytes_eq}
 use Rattle.std.proofs.lemmas.Result.{IfErr-weaker, IfOk-weaker}
-use Rattle.clap.specs.Matches.{found_of}
-use Rattle.clap.specs.Walk.{Row, Text, first_of, rows_of}
-use Rattle.clap.proofs.WalkLemmas.{first_value-rows}
+use Rattle.std.specs.Borrow.{Bor}
+use Rattle.std.specs.Option.{option_map_or}
+use Rattle.clap.specs.Facts.{Entry}
+use Rattle.clap.specs.Matches.{found_of, matched_of, raw_values}
+use Rattle.clap.specs.Walk.{Row, Text, first_of, row_of, rows_of}
+use Rattle.clap.specs.declared.parser.matches.Found.{Found}
+use Rattle.clap.specs.declared.parser.matches.MatchedArg.{MatchedArg}
+use Rattle.clap.proofs.WalkLemmas.{find_row, first_value-rows}
 use Rattle.kc_cores.specs.Endings.{IsRequestFor, RepliesTo}
 use Rattle.kc_lines.specs.declared.format.Format.{Format}
 use Rattle.kc_cores.specs.Wishes.{GraphText, Wish, all_of, check_wish, file_named, format_in, is_set, task_in, text_in, wish_about, wish_for}
 use Rattle.kc_cores.specs.declared.request.Task.{Task}
 use Rattle.kc_cores.proofs.words.wanted_of.Goals as goal
+
+-- all values of an argument, by the rows
+all-rows : (f : Found) (id : Text) → option_map_or raw_values (matched_of f id) [] ≡ all_of id (rows_of f)
+all-rows f id =
+    go (find (λ (e : Entry). bytes_eq e.0.now id) f.entries.items)
+    ∙ sym (ap (λ (r : Option Row). option_map_or (λ (r : Row). r.values) r []) (find_row f.entries.items id))
+  where
+    go : (o : Option Entry) → option_map_or raw_values (option_map (λ e. e.1) o) [] ≡ option_map_or (λ (r : Row). r.values) (option_map row_of o) []
+    go None = refl
+    go (Some e) = refl
+
+-- the same of what was found
+all-values : (found : Option (Bor (List (Bor Text)))) (f : Found) (id : Text)
+    → option_map (λ s. map (λ (v : Bor Text). v.now) s.now) found ≡ option_map raw_values (matched_of f id)
+    → option_map_or (λ (fs : Bor (List (Bor Text))). map (λ (t : Bor Text). t.now) fs.now) found [] ≡ all_of id (rows_of f)
+all-values found f id is =
+    left found ∙ ap (λ (o : Option (List Text)). option_map_or (λ (t : List Text). t) o []) is ∙ right (matched_of f id) ∙ all-rows f id
+  where
+    left : (o : Option (Bor (List (Bor Text)))) → option_map_or (λ (fs : Bor (List (Bor Text))). map (λ (t : Bor Text). t.now) fs.now) o []
+        ≡ option_map_or (λ (t : List Text). t) (option_map (λ s. map (λ (v : Bor Text). v.now) s.now) o) []
+    left None = refl
+    left (Some values) = refl
+
+    right : (o : Option MatchedArg) → option_map_or (λ (t : List Text). t) (option_map raw_values o) [] ≡ option_map_or raw_values o []
+    right None = refl
+    right (Some a) = refl
 
 -- what a command asks for, by whether it is `check`
 wish-by : (name : Text) (rows : List Row) (check : Bool) → bytes_eq name (codes "check") ≡ check
@@ -51,8 +82,9 @@ returns-then-eq-clause-asks c =
     let named = wish-check c.args.name.now (rows_of found) (sym c.eq.ensures ∙ c.if-eq.true) in
     let rows =
     check-same (c.get_str-certificate.ensures ∙ first_value-rows found (codes "CERTIFICATE")) c.text_in-graph.ensures
-    (c.is_set-stream.ensures ∙ ap is_set (c.get_str.ensures ∙ first_value-rows found (codes "stream"))) c.all_of.ensures in
-    IfOk-weaker c.check_for.result _ _ (λ wanted h. subst (λ (w : Wish). IsRequestFor wanted w) (rows ∙ sym named) h) c.check_for.ensures.asks
+    (c.is_set-stream.ensures ∙ ap is_set (c.get_str.ensures ∙ first_value-rows found (codes "stream")))
+    (all-values c.get_strs.result found (codes "pieces") c.get_strs.ensures) in
+    IfOk-weaker c.check_among.result _ _ (λ wanted h. subst (λ (w : Wish). IsRequestFor wanted w) (rows ∙ sym named) h) c.check_among.ensures.asks
 
 pub returns-then-eq-clause-replies : goal.returns-then-eq-clause-replies
 returns-then-eq-clause-replies c =
@@ -60,8 +92,9 @@ returns-then-eq-clause-replies c =
     let named = wish-check c.args.name.now (rows_of found) (sym c.eq.ensures ∙ c.if-eq.true) in
     let rows =
     check-same (c.get_str-certificate.ensures ∙ first_value-rows found (codes "CERTIFICATE")) c.text_in-graph.ensures
-    (c.is_set-stream.ensures ∙ ap is_set (c.get_str.ensures ∙ first_value-rows found (codes "stream"))) c.all_of.ensures in
-    IfErr-weaker c.check_for.result _ _ (λ r h. subst (λ (w : Wish). RepliesTo r w) (rows ∙ sym named) h) c.check_for.ensures.replies
+    (c.is_set-stream.ensures ∙ ap is_set (c.get_str.ensures ∙ first_value-rows found (codes "stream")))
+    (all-values c.get_strs.result found (codes "pieces") c.get_strs.ensures) in
+    IfErr-weaker c.check_among.result _ _ (λ r h. subst (λ (w : Wish). RepliesTo r w) (rows ∙ sym named) h) c.check_among.ensures.replies
 
 pub returns-clause-asks : goal.returns-clause-asks
 returns-clause-asks c =
