@@ -88,6 +88,16 @@ fn check_line<R: Abort + AllocGlobal>(
     )
 }
 
+/// A claim with a rank.
+fn ranked_claim(line: u64, id: u32, number: u32, rank: u32) -> Claim {
+    Claim {
+        line,
+        id,
+        number,
+        rank: Some(rank),
+    }
+}
+
 /// A claim without a rank.
 fn claim(line: u64, id: u32, number: u32) -> Claim {
     Claim {
@@ -151,13 +161,7 @@ fn the_first_line_that_is_no_claim_is_told(rt: HostRuntime) -> Result<(), Fail> 
 
 #[test]
 fn the_line_of_a_claim_counts_comments(rt: HostRuntime) -> Result<(), Fail> {
-    let ranked = Claim {
-        line: 5,
-        id: 8,
-        number: 3,
-        rank: Some(0),
-    };
-    let few = ClaimFault::FewSupporters(ranked, 0);
+    let few = ClaimFault::FewSupporters(ranked_claim(5, 8, 3, 0), 0);
     check(
         &rt,
         b"# one\n9 1\n\n5 2\n8 3 0\n7 2 5",
@@ -166,6 +170,19 @@ fn the_line_of_a_claim_counts_comments(rt: HostRuntime) -> Result<(), Fail> {
     )?;
     let many = ClaimFault::ManyLater(claim(2, 8, 2), 3);
     check(&rt, b"\n8 2\n9 2\n5 2\n7 3\n", EDGES, Ok(Some(many)))
+}
+
+#[test]
+fn of_wrong_claims_the_first_of_the_file_is_told(rt: HostRuntime) -> Result<(), Fail> {
+    let few = ClaimFault::FewSupporters(ranked_claim(1, 8, 3, 0), 1);
+    check(&rt, b"8 3 0\n5 3 0\n7 2\n9 1\n", EDGES, Ok(Some(few)))?;
+    let few = ClaimFault::FewSupporters(ranked_claim(3, 7, 3, 2), 1);
+    check(
+        &rt,
+        b"5 2 1\n# ranks\n7 3 2\n8 3 3\n9 1 0\n",
+        EDGES,
+        Ok(Some(few)),
+    )
 }
 
 #[test]
