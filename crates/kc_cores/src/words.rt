@@ -485,7 +485,12 @@ fn stream_for<'a>(
 fn any_separator(files: &[&str]) -> bool
     ensures { result ≡ list_any tells_separator (map (λ t. t.now) files.now) }
 {
-    files.iter().any(|name| tells_separator(name))
+    for name in files {
+        if tells_separator(name) {
+            return true;
+        }
+    }
+    false
 }
 
 /// Whether words ask for no other text than those of these files, and none of them is in a dialect.

@@ -10,5 +10,5 @@ returns-clause-app c =
     let flagged = c.in_ok-arg.ensures.shape c.stream_flag.ensures.local
     ∙ ap₂ with_rule (c.in_ok-command.ensures.app ∙ ap with_dialect c.in_ok-certificate_command.ensures.app) c.stream_flag.ensures.rule in
     let streamed = c.in_ok-streamed.ensures.shape c.pieces_option.ensures.local ∙ ap₂ with_rule flagged c.pieces_option.ensures.rule in
-    IfOk-weaker c.arg-streamed.result _ _ (λ made h. h.shape c.edges_rule.ensures.local ∙ ap₂ with_rule streamed c.edges_rule.ensures.rule)
-    c.arg-streamed.ensures
+    IfOk-weaker c.arg-3.result _ _ (λ made h. h.shape c.edges_rule.ensures.local ∙ ap₂ with_rule streamed c.edges_rule.ensures.rule)
+    c.arg-3.ensures
