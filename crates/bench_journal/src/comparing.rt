@@ -14,20 +14,15 @@ pub(crate) struct Numbers {
     top: u32,
 }
 
-/// The core numbers of a journal, each asked by itself.
-fn core_of(alloc: Global, journal: &Journal) -> Result<Vec<u32>, NoMemory> {
-    let mut core = Vec::new(alloc);
-    for v in 0..journal.vertices() {
-        core.push(journal.core(v))?;
-    }
-    Ok(core)
-}
-
 impl Numbers {
     /// Those of a journal.
     pub(crate) fn of(alloc: Global, journal: &Journal) -> Result<Numbers, NoMemory> {
+        let mut core = Vec::new(alloc);
+        for v in 0..journal.vertices() {
+            core.push(journal.core(v))?;
+        }
         Ok(Numbers {
-            core: core_of(alloc, journal)?,
+            core,
             order: journal.order(alloc)?,
             edges: journal.graph().edges(),
             top: journal.top(),
@@ -52,22 +47,17 @@ pub(crate) struct Answers {
     entries: Vec<Entry>,
 }
 
-/// The place stamps of a journal.
-fn place_stamps_of(alloc: Global, journal: &Journal) -> Result<Vec<u32>, NoMemory> {
-    let mut place_stamps = Vec::new(alloc);
-    for v in 0..journal.vertices() {
-        place_stamps.push(journal.place_stamp(v))?;
-    }
-    Ok(place_stamps)
-}
-
 impl Answers {
     /// Those of a journal.
     pub(crate) fn of(alloc: Global, journal: &Journal) -> Result<Answers, NoMemory> {
+        let mut place_stamps = Vec::new(alloc);
+        for v in 0..journal.vertices() {
+            place_stamps.push(journal.place_stamp(v))?;
+        }
         Ok(Answers {
             numbers: Numbers::of(alloc, journal)?,
             edge_stamps: Vec::from_slice(alloc, journal.edge_stamps())?,
-            place_stamps: place_stamps_of(alloc, journal)?,
+            place_stamps,
             entries: Vec::from_slice(alloc, journal.entries())?,
         })
     }

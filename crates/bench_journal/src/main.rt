@@ -28,7 +28,7 @@ use crate::graphs::read_graph;
 use crate::opening::open_alone;
 use anyhow::{Result, bail};
 use kc_graph::Graph;
-use std::env::{self, Args};
+use std::env;
 use std::rt::Clock;
 use std::sync::Wait;
 use std::thread::Threads;
@@ -202,15 +202,6 @@ fn number(word: Option<String>) -> Result<u32> {
     }
 }
 
-/// The batches that the words ask for that come next.
-fn load_of(words: &mut Args) -> Result<Load> {
-    Ok(Load {
-        workers: number(words.next())?,
-        batches: number(words.next())?,
-        updates: number(words.next())?,
-    })
-}
-
 /// What the words ask for; an error where they are others.
 fn mode_of(rt: &HostRuntime) -> Result<Mode> {
     let mut words = env::args(rt)?;
@@ -220,53 +211,38 @@ fn mode_of(rt: &HostRuntime) -> Result<Mode> {
         Some("check") => Ok(Mode::Check),
         Some("time") => Ok(Mode::Time),
         Some("open") => Ok(Mode::Open),
-        Some("batches") => Ok(Mode::Batches(load_of(&mut words)?)),
+        Some("batches") => Ok(Mode::Batches(Load {
+            workers: number(words.next())?,
+            batches: number(words.next())?,
+            updates: number(words.next())?,
+        })),
         Some(_) => bail!("the words are check, time, open and batches"),
-    }
-}
-
-/// Compares after each update, and after each small batch.
-fn compare_updates(rt: &HostRuntime, graph: Graph) -> Result<()> {
-    compare_all(rt, graph)?;
-    compare_crews(rt)
-}
-
-/// Compares after some of the updates.
-fn check_updates(rt: &HostRuntime, graph: Graph) -> Result<()> {
-    measure(rt, graph, BETWEEN)?;
-    Ok(())
-}
-
-/// Compares after the last update, and writes how long an update took.
-fn time_updates(rt: &HostRuntime, graph: Graph) -> Result<()> {
-    let counted = measure(rt, graph, UPDATES)?;
-    println!(rt; "{:.2} microseconds an update", counted.microseconds())?;
-    Ok(())
-}
-
-/// Has the workers enter batches, compares after the last one, and writes how long the calls took.
-fn time_batches(rt: &HostRuntime, graph: Graph, load: Load) -> Result<()> {
-    let (entered, took) = enter_batches(rt, graph, load, load.batches)?;
-    let microseconds = took.as_secs_f64() * 1e6;
-    println!(rt; "entered {entered} in {microseconds:.0} microseconds")?;
-    Ok(())
-}
-
-/// Does with the graph what the words ask for.
-fn do_as_asked(rt: &HostRuntime, mode: Mode, graph: Graph) -> Result<()> {
-    match mode {
-        Mode::Compare => compare_updates(rt, graph),
-        Mode::Check => check_updates(rt, graph),
-        Mode::Time => time_updates(rt, graph),
-        Mode::Open => open_alone(rt, graph),
-        Mode::Batches(load) => time_batches(rt, graph, load),
     }
 }
 
 fn main(rt: HostRuntime) -> Result<()> {
     let mode = mode_of(&rt)?;
-    match read_graph(rt.alloc(), &mut rt.stdin())? {
-        Some(graph) => do_as_asked(&rt, mode, graph),
-        None => bail!("not the text of a graph"),
+    let Some(graph) = read_graph(rt.alloc(), &mut rt.stdin())? else {
+        bail!("not the text of a graph");
+    };
+    match mode {
+        Mode::Compare => {
+            compare_all(&rt, graph)?;
+            compare_crews(&rt)?;
+        }
+        Mode::Check => {
+            measure(&rt, graph, BETWEEN)?;
+        }
+        Mode::Time => {
+            let counted = measure(&rt, graph, UPDATES)?;
+            println!(rt; "{:.2} microseconds an update", counted.microseconds())?;
+        }
+        Mode::Open => open_alone(&rt, graph)?,
+        Mode::Batches(load) => {
+            let (entered, took) = enter_batches(&rt, graph, load, load.batches)?;
+            let microseconds = took.as_secs_f64() * 1e6;
+            println!(rt; "entered {entered} in {microseconds:.0} microseconds")?;
+        }
     }
+    Ok(())
 }
