@@ -1,7 +1,6 @@
 -- What is counted of the edges of a stream.
 use Rattle.std.proofs.Common.{◌≡◌, ◌≤◌, ◌<◌, ◌+◌, ◌-◌, ◌∙◌, ◌++◌, ◌^◌, ℕ, suc, get_or, slice_get, List, [], ◌∷◌, Global, None, Option, Some, Vec, ap}
-use Rattle.std.proofs.Common.{ap₂, arith, length, length-append, map, refl, subst, sym}
-use Rattle.std.specs.List.{filter}
+use Rattle.std.proofs.Common.{ap₂, arith, length, length-append, refl, subst, sym}
 use Rattle.std.specs.List.Sorted.{IsStrictlyIncreasing}
 use Rattle.std.proofs.lemmas.List.{map-append}
 use Rattle.std.proofs.lemmas.List.Elements.{filter-append}

@@ -1,6 +1,6 @@
 -- How a text comes in pieces: what its lines say, what was counted of them, and which of them is the first that is wrong.
-use Rattle.std.proofs.Common.{◌≡◌, ◌≤◌, ◌<◌, ◌+◌, ◌-◌, ◌∷◌, ◌++◌, ◌∙◌, Bool, Global, ℕ, [], IfSome, List, None, Option, Some, Vec, ap, append_assoc, append-nil}
-use Rattle.std.proofs.Common.{arith, cond, eqb-true, false, inl, inr, length, length-append, lt-ltb, map, option_map, refl, subst, sym, true}
+use Rattle.std.proofs.Common.{◌≡◌, ◌≤◌, ◌<◌, ◌+◌, ◌-◌, ◌∷◌, ◌++◌, ◌∙◌, Global, ℕ, [], IfSome, List, None, Option, Some, Vec, ap, append-nil}
+use Rattle.std.proofs.Common.{arith, cond, eqb-true, false, inl, inr, length, length-append, lt-ltb, map, refl, subst, sym, true}
 use Rattle.std.specs.List.{onto_first, slice_split}
 use Rattle.std.specs.Prelude.{not}
 use Rattle.std.specs.Str.Lines.{strip_carriage_return}
@@ -11,13 +11,12 @@ use Rattle.kc_text.specs.declared.limits.TheConstants.Limits.{GRAPH}
 use Rattle.kc_text.specs.declared.line.TextLine.{TextLine}
 use Rattle.kc_text.proofs.LineCuts.{some_part}
 use Rattle.kc_text.proofs.SaidAppend.{lines-newline, said-append}
-use Rattle.kc_claims.specs.Certificates.{AreCertificate, TellCoreNumbers}
 use Rattle.kc_claims.specs.Feeding.{IsFedWith}
-use Rattle.kc_claims.specs.Insisting.{HasInsisted, HasInsistedFor}
+use Rattle.kc_claims.specs.Insisting.{HasInsisted}
 use Rattle.kc_claims.specs.Judging.{AreClaimed, TellLines}
 use Rattle.kc_claims.specs.LineFaults.{HasFaultyLine, fault_or, first_line_fault, last_pair, line_fault, pair_after}
 use Rattle.kc_claims.specs.Pieces.{HasFaultyPiece, HasTakenText, is_cut_off, with_end, with_piece}
-use Rattle.kc_claims.specs.Streams.{HoldsOfStream, IsFaultOfStream}
+use Rattle.kc_claims.specs.Streams.{IsFaultOfStream}
 use Rattle.kc_claims.specs.Sweeping.{AreToldBy, HasSwept}
 use Rattle.kc_claims.specs.declared.ascending.AscendingCheck.{AscendingCheck}
 use Rattle.kc_claims.specs.declared.claim.Claim.{Claim}

@@ -1,6 +1,5 @@
 -- A claim that is not the first of its id.
 use Rattle.std.proofs.Common.{◌≡◌, ◌<◌, ◌∙◌, ℕ, List, ap, arith, length, sym}
-use Rattle.kc_graph.specs.Peeling.{at}
 use Rattle.kc_lists.specs.Lists.{member}
 use Rattle.kc_lists.proofs.Counting.{member-get_or}
 use Rattle.kc_claims.specs.Certificates.{IsRepeated, claim_at}

@@ -1,18 +1,17 @@
 -- What lines mean that tell just edges between ids.
-use Rattle.std.proofs.Common.{◌≡◌, ◌≤◌, ◌<◌, ◌+◌, ℕ, true, false, cond, ◌||◌, List, [], ◌∷◌, ◌++◌, length, map, nat_eq, nat_lt, None, Some}
+use Rattle.std.proofs.Common.{◌≡◌, ◌≤◌, ◌+◌, ℕ, true, false, ◌||◌, List, [], ◌∷◌, ◌++◌, length, nat_eq, nat_lt, None}
 use Rattle.std.proofs.Common.{refl, sym, ap, ap₂, ◌∙◌, arith, inl, inr, eqb-true, le-ltb, append-nil, append_assoc, length-append}
-use Rattle.std.specs.Prelude.{All, is_some}
+use Rattle.std.specs.Prelude.{All}
 use Rattle.std.specs.List.{filter}
 use Rattle.std.specs.List.Sorted.{IsStrictlyIncreasing}
 use Rattle.std.specs.Set.{distinct_count, is_member}
 use Rattle.std.proofs.lemmas.Bool.{false≢true, or_cases}
 use Rattle.std.proofs.lemmas.List.Elements.{All-append, All-cons, All-head, All-nil, All-tail}
-use Rattle.kc_text.specs.declared.kind.Kind.TheVariants.{EdgeLineInBatch}
 use Rattle.kc_text.specs.declared.limits.Limits.{Limits}
 use Rattle.kc_text.specs.declared.line.TextLine.{TextLine}
 use Rattle.kc_text.specs.declared.line.TextLine.TheVariants as said
 use Rattle.kc_text.specs.Inputs.{AreIds}
-use Rattle.kc_text.specs.Meaning.{Means, Told, ends, ends_or, first_limit, names, passed_limit, reading, refusal, with_line}
+use Rattle.kc_text.specs.Meaning.{Means, Told, ends, ends_or, first_limit, names, passed_limit, reading, refusal}
 use Rattle.kc_text.specs.TellingLines.{edge_lines, is_telling}
 use Rattle.kc_text.proofs.Counts.{distinct_count-le_from_members}
 use Rattle.kc_text.proofs.Places.{length-AreIds}

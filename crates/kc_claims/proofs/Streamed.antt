@@ -1,6 +1,5 @@
 -- What the counts of a stream show of the claims, in the graph that its bytes mean.
 use Rattle.std.proofs.Common.{◌≡◌, ◌≤◌, ◌<◌, ◌⊎◌, ◌∙◌, Global, ℕ, IfSome, List, None, Option, Some, Vec, ap, arith, length, map, refl, subst, sym}
-use Rattle.std.specs.List.Sorted.{IsStrictlyIncreasing}
 use Rattle.std.proofs.lemmas.List.{get_or_default, length-map}
 use Rattle.kc_lists.specs.Lists.{member}
 use Rattle.kc_graph.specs.Peeling.{at}

@@ -1,5 +1,5 @@
 -- The graph of a stream whose edges were counted, and what the counts are in it.
-use Rattle.std.proofs.Common.{◌≡◌, ◌≢◌, ◌≤◌, ◌<◌, ◌+◌, ◌^◌, ◌⊎◌, ℕ, Bool, Option, true, false, cond, eqb, nat_lt, append-nil, ◌&&◌, ◌||◌}
+use Rattle.std.proofs.Common.{◌≡◌, ◌≢◌, ◌≤◌, ◌<◌, ◌^◌, ◌⊎◌, ℕ, Bool, Option, true, false, cond, eqb, nat_lt, append-nil, ◌&&◌, ◌||◌}
 use Rattle.std.proofs.Common.{List, [], ◌∷◌, length, map, nat_eq, None, Some, leb}
 use Rattle.std.proofs.Common.{refl, sym, ap, ap₂, ◌∙◌, arith, inl, inr, eq-eqb, ne_eqb, le-leb, lt-ltb, subst}
 use Rattle.std.specs.Prelude.{All, count_by}

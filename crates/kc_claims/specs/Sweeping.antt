@@ -3,7 +3,6 @@ use Rattle.std.specs.Prelude.{◌≡◌, ◌≤◌, ◌<◌, ◌^◌, ℕ, List,
 use Rattle.std.specs.List.{filter}
 use Rattle.std.specs.List.Sorted.{IsStrictlyIncreasing}
 use Rattle.kc_graph.specs.Peeling.{at}
-use Rattle.kc_graph.specs.SimpleGraph.{SimpleGraph}
 use Rattle.kc_graph.specs.declared.bulk.Edge.{Edge}
 use Rattle.kc_text.specs.Forms.{all_said}
 use Rattle.kc_text.specs.TellingLines.{is_telling}

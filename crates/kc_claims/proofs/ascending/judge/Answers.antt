@@ -1,5 +1,5 @@
 -- The stream is one piece, and what is told of the piece is told of it.
-use Rattle.std.proofs.Common.{◌≡◌, [], Err, List, None, Option, Some, ℕ, ap, subst}
+use Rattle.std.proofs.Common.{◌≡◌, [], Err, List, Option, Some, ℕ, ap, subst}
 use Rattle.kc_claims.specs.Certificates.{AreCertificate, TellCoreNumbers}
 use Rattle.kc_claims.specs.Pieces.{with_piece}
 use Rattle.kc_claims.specs.Streams.{HoldsOfStream, IsFaultOfStream}

@@ -1,7 +1,7 @@
 -- The next line is wrong, or the look goes on behind it.
-use Rattle.std.proofs.Common.{◌≡◌, ◌+◌, ◌∙◌, ℕ, None, Some, ap, arith, length, refl, sym}
+use Rattle.std.proofs.Common.{◌≡◌, ◌+◌, ◌∙◌, ap, arith, length, refl, sym}
 use Rattle.kc_text.specs.Forms.{all_said}
-use Rattle.kc_claims.specs.LineFaults.{fault_or, first_line_fault, last_pair, pair_after}
+use Rattle.kc_claims.specs.LineFaults.{first_line_fault, last_pair}
 use Rattle.kc_claims.proofs.LineFaulting.{clean-next, wrong-next}
 use Rattle.kc_claims.proofs.looking.look.Goals as goal
 

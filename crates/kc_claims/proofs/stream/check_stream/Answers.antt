@@ -1,5 +1,5 @@
 -- The counts are those of the graph that the bytes mean, in which each id is named.
-use Rattle.std.proofs.Common.{◌≡◌, ◌<◌, ◌⊎◌, ℕ, List, ap, arith, is_none, length, subst, sym}
+use Rattle.std.proofs.Common.{◌<◌, ◌⊎◌, ℕ, List, ap, arith, is_none, length, subst}
 use Rattle.kc_graph.specs.Peeling.{at}
 use Rattle.kc_claims.specs.Certificates.{IsFirstFault}
 use Rattle.kc_claims.specs.Streams.{HoldsOfStream}

@@ -1,5 +1,5 @@
 -- No line of the piece is wrong, or one names an id of which there is no claim, or else one is told.
-use Rattle.std.proofs.Common.{◌≡◌, None, Option, Some, arith, refl}
+use Rattle.std.proofs.Common.{arith, refl}
 use Rattle.std.proofs.lemmas.Result.{IfOk-weaker}
 use Rattle.kc_claims.specs.Pieces.{with_end, with_piece}
 use Rattle.kc_claims.specs.Streams.{IsFaultOfStream}

@@ -1,5 +1,5 @@
 -- A line that is refused stays the first, and else the lines are gathered.
-use Rattle.std.proofs.Common.{ap, subst, sym}
+use Rattle.std.proofs.Common.{subst, sym}
 use Rattle.kc_text.specs.Lines.{lines}
 use Rattle.kc_claims.specs.Gathering.{HasTakenLines}
 use Rattle.kc_text.proofs.SaidAppend.{lines-append}

@@ -1,7 +1,6 @@
 -- No line came of the text, and the sweep is as it was.
-use Rattle.std.proofs.Common.{ℕ, List, append-nil, refl, subst, sym}
+use Rattle.std.proofs.Common.{append-nil, refl, subst, sym}
 use Rattle.kc_claims.specs.Sweeping.{HasSwept}
-use Rattle.kc_claims.specs.declared.sweep.Sweep.{Sweep}
 use Rattle.kc_claims.proofs.insisting.Insisting.begin_text.Goals as goal
 
 pub returns-clause-begun : goal.returns-clause-begun

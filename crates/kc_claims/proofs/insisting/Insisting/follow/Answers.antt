@@ -1,5 +1,5 @@
 -- A line that came is wrong, or none is and their edges are counted.
-use Rattle.std.proofs.Common.{◌≡◌, ◌+◌, ◌++◌, ◌∙◌, ℕ, List, None, Option, Some, ap, arith, is_none, length, refl, subst, sym, true}
+use Rattle.std.proofs.Common.{◌≡◌, ◌+◌, ◌++◌, ◌∙◌, ℕ, List, None, ap, arith, is_none, length, refl, subst, sym, true}
 use Rattle.std.specs.List.Sorted.{IsStrictlyIncreasing}
 use Rattle.kc_graph.specs.declared.bulk.Edge.{Edge}
 use Rattle.kc_text.specs.Forms.{all_said}
