@@ -1,5 +1,5 @@
 -- A reply, a listing, a file, a check and the answer to a stream each end as the words ask for.
-use Rattle.std.proofs.Common.{map, option_map, refl}
+use Rattle.std.proofs.Common.{map, refl}
 use Rattle.kc_cores.specs.Endings.{line_of, query_of, text_of}
 use Rattle.kc_cores.specs.Wishes.{wish_of}
 use Rattle.kc_cores.proofs.Replaced.{RunEnded-asked, RunEnded-reply, RunEnded-save, not_saved}

@@ -1,8 +1,6 @@
 -- There is no graph, or the file has the lines, or it was not written.
-use Rattle.std.proofs.Common.{string_bytes}
 use Rattle.kc_cores.specs.Endings.{line_of, query_of}
-use Rattle.kc_cores.specs.Listings.{made_text}
-use Rattle.kc_cores.proofs.Replaced.{SaveEnded-done, SaveEnded-no_graph, SaveEnded-unsaved}
+use Rattle.kc_cores.proofs.Replaced.{SaveEnded-no_graph}
 use Rattle.kc_cores.proofs.saving.save.Goals as goal
 
 pub returns-in-Err : goal.returns-in-Err

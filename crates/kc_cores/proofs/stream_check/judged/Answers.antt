@@ -1,5 +1,5 @@
 -- A line names an id of which there is no claim, or the counts tell what is wrong.
-use Rattle.std.proofs.Common.{◌≡◌, List, None, Some, length, map, ℕ, subst, sym}
+use Rattle.std.proofs.Common.{List, length, map, ℕ, subst, sym}
 use Rattle.kc_claims.specs.Streams.{IsFaultOfStream}
 use Rattle.kc_claims.specs.declared.fault.ClaimFault.{ClaimFault}
 use Rattle.kc_claims.proofs.Streamed.{some-weaker}

@@ -1,10 +1,10 @@
 -- One more file is taken behind those so far, or the taking ends with it.
-use Rattle.std.proofs.Common.{◌≡◌, ◌<◌, ◌∙◌, [], List, Option, Some, ap, arith, length, map, refl, subst, sym, take, take_all, ℕ}
+use Rattle.std.proofs.Common.{◌∙◌, [], List, Some, ap, arith, map, refl, subst, sym, take_all, ℕ}
 use Rattle.std.specs.Borrow.{Bor}
 use Rattle.std.specs.Prelude.{nat_lt}
 use Rattle.std.proofs.lemmas.List.{length-map}
 use Rattle.kc_cores.specs.Endings.{line_of}
-use Rattle.kc_cores.specs.StreamChecked.{IsTextOfFiles, is_several}
+use Rattle.kc_cores.specs.StreamChecked.{IsTextOfFiles}
 use Rattle.kc_cores.proofs.StreamChecking.{NoPieceFor-same, name-next, piece-next, text-next}
 use Rattle.kc_cores.proofs.stream_check.take_files.Goals as goal
 

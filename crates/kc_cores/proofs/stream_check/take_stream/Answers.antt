@@ -1,5 +1,5 @@
 -- The input is the stream where there are no files, and else they are.
-use Rattle.std.proofs.Common.{◌≡◌, ◌<◌, ◌+◌, [], List, None, Option, Some, ap, arith, false, length, map, refl, slice_get, subst, sym, take, ℕ}
+use Rattle.std.proofs.Common.{◌≡◌, ◌+◌, [], List, None, Option, Some, ap, arith, false, length, map, refl, slice_get, subst, sym, take, ℕ}
 use Rattle.std.specs.Borrow.{Bor}
 use Rattle.std.proofs.lemmas.Bool.{eqb-false, eqb-true}
 use Rattle.std.proofs.lemmas.List.{length-map, length-take}

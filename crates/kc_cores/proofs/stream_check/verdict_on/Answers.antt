@@ -1,5 +1,5 @@
 -- What was found holds of the stream and the claims that were read.
-use Rattle.std.proofs.Common.{◌≡◌, Err, List, None, ap, inl, inr, map, refl, subst, sym, ℕ}
+use Rattle.std.proofs.Common.{Err, List, None, ap, inl, inr, map, refl, subst, sym, ℕ}
 use Rattle.std.proofs.lemmas.Result.{IfErr-weaker, IfOk-weaker, on_ok_weaker}
 use Rattle.kc_claims.specs.Certificates.{AreCertificate, TellCoreNumbers}
 use Rattle.kc_claims.specs.declared.fault.ClaimFault.{ClaimFault}
