@@ -23,8 +23,8 @@ use std::sync::Wait;
 use std::thread::Threads;
 
 /// Makes updates as `Keeper::apply` does, with its promise, by so many workers where it pays. By `pays` the keeper alone makes a batch for
-/// one worker, one of few updates, and one that is small or large for its graph. So it does with a batch that names an edge twice, where an
-/// end is no vertex, and where there is no memory for the workers' run. It starts no thread then.
+/// fewer than four workers, one of few updates, and one that is small or large for its graph. So it does with a batch that names an edge
+/// twice, where an end is no vertex, and where there is no memory for the workers' run. It starts no thread then.
 ///
 /// What `changes` held before is forgotten. Where an end of an update is no vertex, none is made, and nothing has changed. Where there is no
 /// memory for an update, those before it are made, it and the others are not, and `changes` tells of those that are. More than 64 workers are

@@ -16,4 +16,4 @@ mod telling;
 mod working;
 
 pub use applying::{apply_by_workers, apply_with};
-pub use paying::{FEWEST_UPDATES, LEAST_SHARE, MOST_SHARE, pays};
+pub use paying::{FEWEST_UPDATES, FEWEST_WORKERS, LEAST_SHARE, MOST_SHARE, pays};
