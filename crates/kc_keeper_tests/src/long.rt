@@ -8,13 +8,13 @@ use std::sync::Wait;
 use std::thread::Threads;
 
 /// The vertices stand in so many rows. Each is a path, or a ring where its ends are joined.
-const CHAINS: u32 = 1_000;
+const CHAINS: u32 = 10_000;
 
 /// How many vertices a row has.
-const LENGTH: u32 = 25;
+const LENGTH: u32 = 21;
 
 /// How many there are in all.
-const VERTICES: u32 = 25_000;
+const VERTICES: u32 = 210_000;
 
 /// How many workers make the batches.
 const WORKERS_ASKED: u32 = 4;
@@ -74,7 +74,7 @@ fn close<R: Threads + Wait + Sync + Abort + AllocGlobal>(
     is_worth && alone.is_ok() && worked.is_ok() && twins.stay_alike()
 }
 
-/// Whether the last batch cut 500 rings, closed as many, and changed each number.
+/// Whether the last batch cut 5,000 rings, closed as many, and changed each number.
 fn has_changed_all(twins: &Twins) -> bool {
     let Changes {
         added,
@@ -82,7 +82,7 @@ fn has_changed_all(twins: &Twins) -> bool {
         cores,
         ..
     } = &twins.by_workers;
-    *added == 500 && *removed == 500 && cores.len() == VERTICES as usize
+    *added == 5_000 && *removed == 5_000 && cores.len() == VERTICES as usize
 }
 
 /// Lays the rows, closes every second one, and then the others instead.

@@ -1,5 +1,5 @@
 //! `pays` at its bounds.
-use kc_keeper_workers::{FEWEST_UPDATES, LEAST_SHARE, MOST_SHARE, pays};
+use kc_keeper_workers::{FEWEST_UPDATES, FEWEST_WORKERS, LEAST_SHARE, MOST_SHARE, pays};
 use std::process::Abort;
 
 /// The smallest graph for which the fewest updates are not too many.
@@ -18,13 +18,14 @@ fn no_worker_is_asked_beyond_the_bounds(rt: HostRuntime) {
     for (workers, size, updates, wanted) in [
         (0, SMALLEST, FEWEST_UPDATES, false),
         (1, SMALLEST, FEWEST_UPDATES, false),
-        (2, SMALLEST, FEWEST_UPDATES, true),
-        (2, SMALLEST, FEWEST_UPDATES - 1, false),
-        (2, SMALLEST - 1, FEWEST_UPDATES, false),
-        (2, SMALLEST, FEWEST_UPDATES + 1, false),
-        (2, LARGE + LEAST_SHARE - 1, FEWEST_UPDATES, true),
-        (2, LARGE + LEAST_SHARE, FEWEST_UPDATES, false),
-        (2, LARGE + LEAST_SHARE, FEWEST_UPDATES + 1, true),
+        (FEWEST_WORKERS - 1, SMALLEST, FEWEST_UPDATES, false),
+        (FEWEST_WORKERS, SMALLEST, FEWEST_UPDATES, true),
+        (4, SMALLEST, FEWEST_UPDATES - 1, false),
+        (4, SMALLEST - 1, FEWEST_UPDATES, false),
+        (4, SMALLEST, FEWEST_UPDATES + 1, false),
+        (4, LARGE + LEAST_SHARE - 1, FEWEST_UPDATES, true),
+        (4, LARGE + LEAST_SHARE, FEWEST_UPDATES, false),
+        (4, LARGE + LEAST_SHARE, FEWEST_UPDATES + 1, true),
     ] {
         assert_pays(&rt, workers, size, updates, wanted);
     }
