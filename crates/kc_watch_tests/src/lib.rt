@@ -1,7 +1,10 @@
-//! Tests of `kc_watch`: what a stream is answered, fed whole and in pieces, and which line of it is refused.
+//! Tests of `kc_watch` and `kc_state`. Of a stream: what it is answered, fed whole and in pieces, and which line of it is refused. Of a kept
+//! state: its text, written and read.
 //!
-//! The crate has no code but its tests. They stand apart from that crate, whose own functions would be proved once more beside them.
+//! The crate has no code but its tests. They stand apart from those crates, whose own functions would be proved once more beside them.
 #![tactic(auto)]
 
+#[cfg(test)]
+mod states;
 #[cfg(test)]
 mod streams;

@@ -1,0 +1,15 @@
+-- The lines of the edges so far were put.
+use Rattle.std.proofs.Common.{◌≡◌}
+use Rattle.std.specs.List.{flat_map}
+use Rattle.kc_flat.specs.Listing.{ascending_below}
+use Rattle.kc_graph.specs.Neighbours.{neighbours_of}
+use Rattle.kc_state.specs.SummedPages.{HasPut}
+use Rattle.kc_state.specs.Texts.{lines_to_greater}
+use Rattle.kc_state.proofs.writing.put_edges.Given as goal
+
+abbrev pub invariant-loop-v : goal.invariant-loop-v
+invariant-loop-v g l = record {
+  put : HasPut (g.O.Sink.taken l.fn.out) (g.O.Sink.taken l.out) l.fn.summed l.summed
+      (flat_map (λ v. lines_to_greater l.ids v (neighbours_of l.graph v)) (ascending_below l.v));
+  faultless : g.O.Sink.faults l.out ≡ g.O.Sink.faults l.fn.out;
+}
