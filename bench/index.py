@@ -4,8 +4,8 @@
     python3 bench/index.py --write      writes the page
     python3 bench/index.py              tells whether the page fits the sources, by its status
 
-A name is that of a function, type, constant or variant of a crate's src/, of a definition or one of its fields in specs/, or of a lemma of
-proofs/*.antt. Names that stand as the same in more than MOST crates, and those of fewer than LEAST letters, are left out: they tell nothing of where
+A name is that of a function, type, constant, variant, field or clause of a crate's src/, of a definition or one of its fields in specs/, or of
+a lemma of proofs/*.antt. Names that stand as the same in more than MOST crates, and those of fewer than LEAST letters, are left out: they tell nothing of where
 they stand. Answer files, whose names are the prover's, are left out, too. Behind a name stand the other crates whose files bring it in by `use`,
 where these are at most USERS.
 """
@@ -24,6 +24,9 @@ USERS = 10
 ITEM = re.compile(r"^\s*(?:pub(?:\([^)]*\))?\s+)?(?:const\s+|unsafe\s+|extern \"C\"\s+)*(?:fn|struct|enum|trait|const|type)\s+(\w+)", re.M)
 VARIANT = re.compile(r"^    ([A-Z]\w+)(?:\s*[,({]|$)", re.M)
 ENUM = re.compile(r"\benum\s+\w+[^{]*\{(.*?)^\}", re.M | re.S)
+STRUCT = re.compile(r"\bstruct\s+\w+[^{;(]*\{(.*?)^\}", re.M | re.S)
+OF_STRUCT = re.compile(r"^    (?:pub(?:\([^)]*\))? )?(\w+):", re.M)
+CLAUSE = re.compile(r"^\s*(?:requires|ensures) (\w+) \{", re.M)
 WORD = re.compile(r"^(?:abbrev |opaque |pub |record |data )+([^\s:(]+)", re.M)
 FIELD = re.compile(r"^  (?:pub )?([a-z][\w'-]*)\s*:", re.M)
 LEMMA = re.compile(r"^ *(?:abbrev |private |pub )*([A-Za-z][\w'◌-]*)\s*:(?=\s)", re.M)
@@ -38,8 +41,8 @@ plain English what the definitions mean, and `docs/MAP.md` which promise rests o
 
 Behind `used in` stand the other crates that bring the name in, where these are at most {users}.
 
-A letter behind a name tells what it is: `f` a function, type or constant of the code, `d` a definition, `m` a member of a definition that is a
-record, `l` a lemma.
+A letter behind a name tells what it is: `f` a function, type or constant of the code, `s` a field of a struct, `c` a clause of a function, `d` a
+definition, `m` a member of a definition that is a record, `l` a lemma.
 
 """
 
@@ -55,8 +58,14 @@ def listed():
     found = collections.defaultdict(set)
     for crate in sorted(CRATES.iterdir()):
         for path in sorted(crate.glob("src/**/*.rt")):
-            for name in names_of_code(path.read_text(encoding="utf-8")):
+            text = path.read_text(encoding="utf-8")
+            for name in names_of_code(text):
                 found[name, "f"].add((crate.name, path.stem))
+            for body in STRUCT.findall(text):
+                for name in OF_STRUCT.findall(body):
+                    found[name, "s"].add((crate.name, path.stem))
+            for name in CLAUSE.findall(text):
+                found[name, "c"].add((crate.name, path.stem))
         for path in sorted(crate.glob("specs/**/*.antt")):
             text = path.read_text(encoding="utf-8")
             for name in WORD.findall(text):
