@@ -1,4 +1,5 @@
 -- What public contracts speak of.
+pub mod OneState
 pub mod Reading
 pub mod Texts
 -- What the crate's own functions and invariants speak of.

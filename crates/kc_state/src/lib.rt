@@ -6,6 +6,7 @@
 //!
 //! [`write_state`] writes the text in pieces, and takes no memory. [`read_state`] takes a text apart, lets `kc_cert` check the order, writes what
 //! came of it again, and compares (`comparing`). So what it gives has just the text that was read. Else it tells the first line that is wrong.
+//! No other state has that text, by the law of `laws`: so of a text that was written it gives what was written.
 //! The crate stands on `kc_lines` for pages, on `kc_stream` for ids, and on `kc_graph` and `kc_cert` for certified graphs.
 #![tactic(auto)]
 
@@ -13,6 +14,7 @@ mod comparing;
 mod edges;
 mod fault;
 mod kept_state;
+pub mod laws;
 mod reading;
 mod state_line;
 mod summed_page;

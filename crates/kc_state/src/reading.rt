@@ -1,11 +1,11 @@
 //! Reads a state from its text.
-ghost use Rattle.std.specs.Prelude.{◌≡◌, ◌≤◌, ◌<◌, [], All, IfOk, OnOk, length};
+ghost use Rattle.std.specs.Prelude.{◌≡◌, ◌≤◌, ◌<◌, ◌^◌, [], All, IfOk, OnOk, length};
 ghost use Rattle.kc_lists.specs.Lists.{Distinct};
 ghost use Rattle.kc_graph.specs.Core.{AreCoreNumbers};
-ghost use Rattle.kc_graph.specs.Lawful.{IsCertified};
 ghost use Rattle.kc_words.specs.declared.layout.TheConstants.{VERTICES};
 ghost use Rattle.kc_state.specs.Reading.{parts_of_state};
-ghost use Rattle.kc_state.specs.Texts.{state_text};
+ghost use Rattle.kc_state.specs.OneState.{AreSame, IsKeptState};
+ghost use Rattle.kc_state.specs.Texts.{KeptParts, state_text};
 
 use crate::comparing::Comparing;
 use crate::edges::read_edges;
@@ -175,27 +175,44 @@ fn compare(page: Page, state: &KeptState, text: &[u8]) -> Result<(), StateFault>
     })
 }
 
-/// The state that a text tells. The text is just that which [`write_state`] writes of this state, and an order certifies its core numbers.
+/// Numbers fit their type.
+fn all_fit(numbers: &[u32])
+    ensures { All (λ number. number < 2 ^ 32) numbers.now }
+{}
+
+/// Counts fit their types.
+fn counts_fit(batches: u64, vertices: u32, edges: u64)
+    ensures batches { batches < 2 ^ 64 }
+    ensures vertices { vertices < 2 ^ 32 }
+    ensures edges { edges < 2 ^ 64 }
+{}
+
+/// What a state is made of fits its types, which shows where it is looked at.
+fn look(state: &KeptState)
+    requires one_id_each { length state.now.ids ≡ state.now.lawful.graph.size }
+    requires once { Distinct state.now.ids }
+    ensures { IsKeptState (parts_of_state state.now) }
+{
+    all_fit(state.ids.names());
+    all_fit(state.lawful.core());
+    counts_fit(
+        state.batches,
+        state.lawful.graph().vertices(),
+        state.lawful.graph().edges(),
+    );
+}
+
+/// The state that a text tells. The text is just that which [`write_state`] writes of this state, and of no other. The order certifies the core
+/// numbers.
 ///
 /// `Faulty` tells the first line that is wrong: it is none of the lines of a state, or tells an id, a place or an edge that can't stand there,
 /// or its check sum is not that of the lines before it. Where all lines are right, the order may not certify the numbers. `NoMemory` comes
 /// where there is none.
-///
-/// # Example
-///
-/// ```rust
-/// use kc_state::read_state;
-///
-/// let state = read_state(alloc, text)?; // what write_state wrote
-/// let batches = state.batches; // 3
-/// let ids = state.ids.names(); // 7, 8, 9
-/// let fault = read_state(alloc, b"kcore-state 1\nbatches 3\n").err(); // Faulty, line 3, StateKind::Cut
-/// ```
 pub fn read_state(alloc: Global, text: &[u8]) -> Result<KeptState, ReadFault>
     ensures told { IfOk result (λ state. text.now ≡ state_text (parts_of_state state)) }
+    ensures alone { IfOk result (λ state. (s : KeptParts) → IsKeptState s → text.now ≡ state_text s → AreSame s (parts_of_state state)) }
+    ensures kept { IfOk result (λ state. IsKeptState (parts_of_state state)) }
     ensures one_id_each { IfOk result (λ state. length state.ids ≡ state.lawful.graph.size) }
-    ensures once { IfOk result (λ state. Distinct state.ids) }
-    ensures certified { IfOk result (λ state. IsCertified state.lawful) }
     ensures seidman { IfOk result (λ state. AreCoreNumbers state.lawful.graph state.lawful.core) }
 {
     let told = read_told(alloc, text)?;
@@ -204,6 +221,7 @@ pub fn read_state(alloc: Global, text: &[u8]) -> Result<KeptState, ReadFault>
     match compare(page, &state, text) {
         Ok(()) => {
             let _core = state.lawful.core();
+            look(&state);
             Ok(state)
         }
         Err(fault) => Err(ReadFault::Faulty(fault)),
