@@ -29,7 +29,7 @@ CASES = (
     ("a piece without a line end", ORDER, {"a": "5 7\n5 8", "b": "7 8\n8 9"}, 0, "yes\n", ""),
     ("empty pieces", ORDER, {"a": "", "b": "5 7\n5 8\n7 8\n", "c": "", "d": "# none\n", "e": "8 9\n"}, 0, "yes\n", ""),
     ("a changed number", "9 1\n5 2\n7 1\n8 2\n", {"a": "5 7\n5 8\n", "b": "7 8\n8 9\n"}, 1, "no\t5\n", None),
-    ("an edge in no piece", ORDER, {"a": "5 7\n5 8\n", "b": "8 9\n"}, 1, "no\t5\n", None),
+    ("an edge in no piece", ORDER, {"a": "5 7\n5 8\n", "b": "8 9\n"}, 1, "no\t7\n", None),
     ("an id without a claim", ORDER, {"a": "5 7\n5 8\n", "b": "7 8\n8 9\n8 10\n", "c": "no edge\n"}, 1, "no\t10\n", None),
     ("an edge twice, once in each piece", ORDER, {"a": "5 7\n5 8\n", "b": "5 8\n7 8\n8 9\n"}, 3, "", DESCENDS.format("{b}", 1)),
     ("pieces that overlap", ORDER, {"a": "5 7\n7 8\n", "b": "# b\n\n5 8\n8 9\n"}, 3, "", DESCENDS.format("{b}", 3)),
