@@ -1,16 +1,18 @@
 #!/usr/bin/env python3
 """The examples in doc comments: whether they stand there as they were tried, and whether they run.
 
-    python3 bench/doc_examples.py              looks whether each comment has its example; status 1 where one has not
+    python3 bench/doc_examples.py              looks whether each comment has its example, and each example its entry; status 1 where not
     python3 bench/doc_examples.py --write      puts each example that is not there at the end of its item's comment
     python3 bench/doc_examples.py --run        has the kit compile and run them all, in a copy of the repository: `rt try --test`, some minutes
 
-`doc_examples.txt` has them. A block begins with `@ FILE :: BEGINNING OF THE ITEM`. A line `T| ..` stands in the test alone: it asserts what
-the comment says.
+`doc_examples.txt` has them: each block of code in a doc comment of `crates/*/src`. A block there begins with `@ FILE :: BEGINNING OF THE ITEM`.
+A line `T| ..` stands in the test alone: it asserts what the comment says. The copy takes the libraries that are built here.
 """
 import argparse
+import os
 import pathlib
 import re
+import shutil
 import subprocess
 import sys
 import tempfile
@@ -18,8 +20,9 @@ import tempfile
 TOP = pathlib.Path(__file__).resolve().parent.parent
 CRATE = "doc_examples"
 LIBRARIES = (
-    "kc_io kc_files kc_wire kc_lists kc_graph kc_flat kc_cert kc_tally kc_shard kc_hindex kc_text kc_dialect kc_names kc_read kc_words kc_table kc_order kc_topo kc_view"
-    " kc_journal kc_batch_effects kc_shared kc_workers kc_batch kc_run kc_snapshot kc_published kc_keeper kc_keeper_workers kc_top kc_claims kc_cores"
+    "kc_io kc_lines kc_files kc_wire kc_dialogue kc_lists kc_graph kc_flat kc_cert kc_tally kc_shard kc_hindex kc_text kc_dialect kc_names kc_head kc_read"
+    " kc_words kc_table kc_order kc_topo kc_view kc_journal kc_batch_effects kc_shared kc_workers kc_batch kc_run kc_snapshot kc_published kc_keeper"
+    " kc_keeper_workers kc_changes kc_stream kc_answers kc_watch kc_top kc_claims kc_cores"
 )
 IMPORTS = ["std::alloc::Global", "std::process::Abort", "std::sync::Wait", "std::test::Fail", "std::thread::Threads"]
 BOUNDS = "R: Abort + AllocGlobal + Threads + Wait + Sync"
@@ -115,11 +118,57 @@ def look(write):
     return missing
 
 
+def fences(text):
+    """Where the code of doc comments begins: the line of each fence, and the line behind its comment."""
+    is_open = False
+    for at, line in enumerate(text):
+        if re.match(r"\s*//[/!] ```", line):
+            is_open = not is_open
+            if is_open:
+                behind = at
+                while re.match(r"\s*//[/!]", text[behind]):
+                    behind += 1
+                yield at, behind
+
+
+def look_back():
+    """Looks whether each example of a comment is in the list, as the last of its item. Gives how many are not."""
+    listed = {}
+    for file, item, _ in blocks():
+        listed.setdefault(file, []).append(item)
+    missing = 0
+    for path in sorted((TOP / "crates").glob("*/src/**/*.rt")):
+        file = path.relative_to(TOP / "crates").as_posix()
+        text = path.read_text(encoding="utf-8").split("\n")
+        known = {place_in(text, file, item) for item in listed.get(file, [])}
+        last = {behind: at for at, behind in fences(text)}
+        for at, behind in fences(text):
+            if behind not in known or at != last[behind]:
+                print(f"{file}: line {at + 1} begins an example that bench/doc_examples.txt has not, before '{text[behind].strip()}'")
+                missing += 1
+    return missing
+
+
+def link_or_copy(source, target):
+    try:
+        os.link(source, target)
+    except OSError:
+        shutil.copy2(source, target)
+
+
+def lend(clone):
+    """Gives a clone the libraries that are built here. The kit takes one only where it was built of the same sources."""
+    for built in (TOP / "crates").glob("*/out/rlib"):
+        if (clone / "crates" / built.parts[-3]).is_dir():
+            shutil.copytree(built, clone / built.relative_to(TOP), copy_function=link_or_copy)
+
+
 def run():
     """Runs the examples as the tests of a crate in a clone. Gives the status."""
     with tempfile.TemporaryDirectory() as folder:
         clone = pathlib.Path(folder) / "clone"
         subprocess.run(["git", "clone", "-q", TOP, clone], check=True)
+        lend(clone)
         source = clone / "crates" / CRATE / "src"
         source.mkdir(parents=True)
         root = ["//! The examples of the doc comments.", "#![tactic(auto)]", ""]
@@ -138,10 +187,10 @@ def main():
     words.add_argument("--write", action="store_true")
     words.add_argument("--run", action="store_true")
     asked = words.parse_args()
-    missing = look(asked.write)
+    missing = look(asked.write) + look_back()
     if missing:
         sys.exit(1)
-    print(f"{sum(1 for _ in blocks())} examples stand in their comments")
+    print(f"{sum(1 for _ in blocks())} examples stand in their comments, and there are no others")
     if asked.run:
         sys.exit(run())
 
