@@ -16,8 +16,7 @@ import tempfile
 TOP = pathlib.Path(__file__).resolve().parent.parent
 ORDER = "9 1\n5 2\n7 2\n8 2\n"
 LINE = "cores: {}: line {}: "
-FILES = ("give the files in the order of their first edges, sort each, as by sort -n -u -k1,1 -k2,2, with the lesser id of each edge first, "
-         "and keep each edge in one file\n")
+FILES = "sort each file (sort -n -u -k1,1 -k2,2, lesser id first), give them in that order, each edge once\n"
 DESCENDS = LINE + "the edges do not ascend here; " + FILES
 WORDS = ("cores: --stream and --pieces take lines of two ids with a blank or a tab between them, and one goes without the other and --pieces "
          "without FILE; leave them out for other tables, or write such lines\n")

@@ -1,5 +1,6 @@
 -- How a text is handed on, one piece after another.
-use Rattle.std.proofs.Common.{◌≡◌, ◌≢◌, ◌<◌, ◌∙◌, ◌++◌, ℕ, Err, IfSome, List, Ok, [], ◌∷◌, Option, Result, ap, append-nil, append_assoc, arith, length, subst, sym}
+use Rattle.std.proofs.Common.{◌≡◌, ◌≢◌, ◌<◌, ◌∙◌, ◌++◌, ℕ, Err, IfSome, List, Ok, [], ◌∷◌, Option, Result, ap, append-nil, append_assoc, arith}
+use Rattle.std.proofs.Common.{length, subst, sym}
 use Rattle.std.specs.Result.{IsErrAnd}
 use Rattle.std.specs.Io.KnownBytes.{Consumes, IsAtEnd}
 use Rattle.std.proofs.KnownBytes.{Consumes-all, Consumes-trans}

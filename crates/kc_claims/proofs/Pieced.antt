@@ -169,7 +169,8 @@ clean-later ids n done before (x ∷ xs) is =
 
 -- nothing was taken, and no line was looked at
 pub HasTakenText-none : (claims : List Claim) (order : List ℕ) (claimed : Claimed) (check : AscendingCheck) → AreClaimed claims order claimed
-    → check.insisting.sweep ≡ claimed.sweep → check.insisting.last ≡ None → check.insisting.fault ≡ None → check.lines ≡ claimed.lines → check.room ≡ GRAPH.bytes
+    → check.insisting.sweep ≡ claimed.sweep → check.insisting.last ≡ None → check.insisting.fault ≡ None
+    → check.lines ≡ claimed.lines → check.room ≡ GRAPH.bytes
     → HasTakenText claims (Some []) check
 HasTakenText-none claims order claimed check h sweep last fresh lines room = record {
   order = order;

@@ -1,6 +1,7 @@
 -- A run that checks a certificate for an ascending stream ends as it should: where there is no verdict, and where one was said. First how the text of a
 -- stream comes from its files.
-use Rattle.std.proofs.Common.{◌≡◌, ◌≤◌, ◌<◌, ◌+◌, ◌∷◌, ◌++◌, ◌∙◌, Bool, ℕ, List, [], Option, Some, ap, arith, get_or, inl, inr, length, map, refl, subst, suc, sym, take}
+use Rattle.std.proofs.Common.{◌≡◌, ◌≤◌, ◌<◌, ◌+◌, ◌∷◌, ◌++◌, ◌∙◌, Bool, ℕ, List, [], Option, Some, ap, arith, get_or, inl, inr, length, map, refl}
+use Rattle.std.proofs.Common.{subst, suc, sym, take}
 use Rattle.std.proofs.Common.{slice_get, take_all, zero}
 use Rattle.std.specs.Borrow.{Bor}
 use Rattle.std.proofs.lemmas.List.{get_or-map, length-map, length-take, take_more}

@@ -28,7 +28,7 @@ abbrev pub descends_sentence : Bool → List ℕ
 descends_sentence false =
     codes "the edges do not ascend here; sort them, as by sort -n -u -k1,1 -k2,2, with the lesser id of each first, or leave out --stream"
 descends_sentence true =
-    codes "the edges do not ascend here; give the files in the order of their first edges, sort each, as by sort -n -u -k1,1 -k2,2, with the lesser id of each edge first, and keep each edge in one file"
+    codes "the edges do not ascend here; sort each file (sort -n -u -k1,1 -k2,2, lesser id first), give them in that order, each edge once"
 
 -- what was found wrong with a line of a stream that is to ascend, and how it is mended, by whether it comes in several files
 abbrev pub line_fault_sentence : Bool → LineFault → List ℕ

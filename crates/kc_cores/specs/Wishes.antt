@@ -162,8 +162,8 @@ pub record Query : Type 0 where
   pub quiet : Bool
 
 -- What words ask for: a task for a graph; or the same, whose lines become the file of this name; or the check of a certificate of this name
--- for the graph of a text; or the same for an ascending stream of files, one after another, or of standard input; or the answer to a stream. Or they ask for help
--- or the version, or are not right: then there is a reply of one of these kinds, as those of `clap`.
+-- for the graph of a text; or the same for an ascending stream of files, one after another, or of standard input; or the answer to a stream. Or
+-- they ask for help or the version, or are not right: then there is a reply of one of these kinds, as those of `clap`.
 pub data Wish : Type 0 where
   Asks : Query → Wish
   Saves : Text → Query → Wish

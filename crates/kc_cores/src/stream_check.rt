@@ -33,7 +33,7 @@ fn descends_sentence(several: bool) -> &'static str
     ensures { result.now ≡ descends_sentence several }
 {
     if several {
-        "the edges do not ascend here; give the files in the order of their first edges, sort each, as by sort -n -u -k1,1 -k2,2, with the lesser id of each edge first, and keep each edge in one file"
+        "the edges do not ascend here; sort each file (sort -n -u -k1,1 -k2,2, lesser id first), give them in that order, each edge once"
     } else {
         "the edges do not ascend here; sort them, as by sort -n -u -k1,1 -k2,2, with the lesser id of each first, or leave out --stream"
     }

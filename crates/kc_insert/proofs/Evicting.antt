@@ -16,7 +16,8 @@ use Rattle.kc_view.specs.Search.{Search, after, OnLevel}
 use Rattle.kc_view.specs.Views.{Shown}
 use Rattle.kc_view.proofs.Fronts.{firsts-push, seconds-push}
 use Rattle.kc_insert.specs.Marks.{earlier_in, later_in, turn_in, candidate_in, weak_in}
-use Rattle.kc_insert.specs.Rising.{is_queued, earlier_at, later_at, turn_at, is_candidate, is_weak, is_named, cands, left, waiting, pending, IsOrderly, IsTidyRising}
+use Rattle.kc_insert.specs.Rising.{is_queued, earlier_at, later_at, turn_at, is_candidate, is_weak, is_named, cands, left, waiting, pending}
+use Rattle.kc_insert.specs.Rising.{IsOrderly, IsTidyRising}
 use Rattle.kc_insert.specs.Searching.{ahead, Widened, Drops, BetweenTurns, InSettling}
 use Rattle.kc_insert.specs.Turns.{LeavesQueue, Loses, Evicts, LinedUp, SettlingAt, IsBetweenTurns, IsSettling}
 use Rattle.kc_insert.specs.declared.losing.Loss.{Loss}

@@ -1,5 +1,6 @@
 -- The greatest level.
-use Rattle.std.proofs.Common.{◌≡◌, ◌≢◌, ◌<◌, ◌≤◌, ◌+◌, ◌⊎◌, ℕ, zero, suc, fold, Bool, true, false, List, [], ◌∷◌, length, get_or, set, ltb, Option, Some, None, eqb}
+use Rattle.std.proofs.Common.{◌≡◌, ◌≢◌, ◌<◌, ◌≤◌, ◌+◌, ◌⊎◌, ℕ, zero, suc, fold, Bool, true, false, List, [], ◌∷◌, length, get_or, set, ltb, Option}
+use Rattle.std.proofs.Common.{Some, None, eqb}
 use Rattle.std.proofs.Common.{refl, sym, ◌∙◌, ap, ap₂, subst, inl, inr, arith, eq-eqb, length-set}
 use Rattle.std.specs.Prelude.{max, MatchBool}
 use Rattle.std.specs.Option.{MatchOption, unwrap_or}

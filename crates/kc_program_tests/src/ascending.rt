@@ -12,13 +12,13 @@ use std::test::Fail;
 const EDGES: &[u8] = b"# a triangle and one more\n5 7\n5 8\n7\t8\n8 9\n";
 
 /// A certificate: 9 goes first, and the others have two neighbours behind them, one and none.
-const ORDER: &[u8] = b"9 1\n5 2\n7 2\n8 2\n";
+pub const ORDER: &[u8] = b"9 1\n5 2\n7 2\n8 2\n";
 
 /// What is told of claims and a stream.
-type Told = Result<Option<ClaimFault>, StreamFault>;
+pub type Told = Result<Option<ClaimFault>, StreamFault>;
 
 /// A source of these bytes, of which each read gives some, and some reads fail.
-fn source_of<R: AllocGlobal>(
+pub fn source_of<R: AllocGlobal>(
     rt: &R,
     bytes: &[u8],
     most: usize,

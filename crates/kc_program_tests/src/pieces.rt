@@ -1,26 +1,8 @@
 //! Claims beside an ascending stream that comes in two pieces: a triangle of the ids 5, 7 and 8, with 9 that hangs on 8.
+use crate::ascending::{ORDER, Told, source_of};
 use kc_claims::{AscendingCheck, ClaimFault, FaultyLine, LineFault, StreamFault, claims_from};
-use kc_io::mem_source::MemSource;
 use std::process::Abort;
 use std::test::Fail;
-
-/// A certificate: 9 goes first, and the others have two neighbours behind them, one and none.
-const ORDER: &[u8] = b"9 1\n5 2\n7 2\n8 2\n";
-
-/// What is told of claims and a stream.
-type Told = Result<Option<ClaimFault>, StreamFault>;
-
-/// A source of these bytes, of which each read gives some, and some reads fail.
-fn source_of<R: AllocGlobal>(
-    rt: &R,
-    bytes: &[u8],
-    most: usize,
-    fails: &[u32],
-) -> Result<MemSource, Fail> {
-    let text = Vec::from_slice(rt.alloc(), bytes).map_err(|_| "no memory")?;
-    let fails = Vec::from_slice(rt.alloc(), fails).map_err(|_| "no memory")?;
-    Ok(MemSource::new(text, most.max(1), fails))
-}
 
 /// What is told where each read gives some bytes, and some reads of the second piece fail.
 fn told<R: Abort + AllocGlobal>(

@@ -1,6 +1,8 @@
 -- Shards without a fault, and the rows of a shard.
-use Rattle.std.proofs.Common.{◌≡◌, ◌↔◌, ◌≤◌, ◌<◌, ◌+◌, ◌-◌, ◌^◌, ◌∙◌, ℕ, suc, zero, Bool, true, false, cond, not, ◌⊎◌, List, [], ◌∷◌, Option, None, Some, drop, length}
-use Rattle.std.proofs.Common.{get_or, set, leb, ltb, eqb, leb-true, ne_eqb, refl, sym, ap, subst, inl, inr, arith, true≢false, ltb-true, lt-ltb, eqb-true, eq-eqb}
+use Rattle.std.proofs.Common.{◌≡◌, ◌↔◌, ◌≤◌, ◌<◌, ◌+◌, ◌-◌, ◌^◌, ◌∙◌, ℕ, suc, zero, Bool, true, false, cond, not, ◌⊎◌, List, [], ◌∷◌, Option, None}
+use Rattle.std.proofs.Common.{Some, drop, length}
+use Rattle.std.proofs.Common.{get_or, set, leb, ltb, eqb, leb-true, ne_eqb, refl, sym, ap, subst, inl, inr, arith, true≢false, ltb-true, lt-ltb}
+use Rattle.std.proofs.Common.{eqb-true, eq-eqb}
 use Rattle.std.specs.Prelude.{All, is_some}
 use Rattle.std.specs.List.{position, position_or_len}
 use Rattle.std.specs.Option.{option_map}

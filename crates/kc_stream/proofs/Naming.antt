@@ -138,7 +138,8 @@ number-push ids n x new = elim (cases_Bool (nat_eq n x)) [
       ∙ ap Some (place-last ids n new) ∙ sym (ap (λ b. cond b (Some (length ids)) (number_of ids x)) same)
   | inr other ↦
       let back : nat_eq x n ≡ false = flip n x other in
-      let here : is_member nat_eq (ids ++ n ∷ []) x ≡ is_member nat_eq ids x = list_any-append (nat_eq x) ids (n ∷ []) ∙ ap (λ b. is_member nat_eq ids x || (b || false)) back
+      let here : is_member nat_eq (ids ++ n ∷ []) x ≡ is_member nat_eq ids x =
+      list_any-append (nat_eq x) ids (n ∷ []) ∙ ap (λ b. is_member nat_eq ids x || (b || false)) back
       ∙ or-false (is_member nat_eq ids x) in
       ap (λ b. cond b (Some (place (ids ++ n ∷ []) x)) None) here ∙ as-before here ∙ sym (ap (λ b. cond b (Some (length ids)) (number_of ids x)) other)
 ]

@@ -1,12 +1,15 @@
 -- Step by step each level loses a layer; where a step takes nothing, core numbers leave nothing.
 use Rattle.std.proofs.Common.{◌≡◌, ◌≤◌, ◌<◌, ◌+◌, ◌-◌, ◌^◌, ℕ, suc, zero, Bool, true, false, cond, not, ◌&&◌, ◌||◌, List, [], length, get_or, drop}
-use Rattle.std.proofs.Common.{eqb, leb, ltb, refl, sym, ◌∙◌, ap, subst, ◌⊎◌, inl, inr, arith, leb-true, le-leb, ltb-true, lt-ltb, eqb-true, eq-eqb, ne_eqb, true≢false}
+use Rattle.std.proofs.Common.{eqb, leb, ltb, refl, sym, ◌∙◌, ap, subst, ◌⊎◌, inl, inr, arith, leb-true, le-leb, ltb-true, lt-ltb, eqb-true, eq-eqb}
+use Rattle.std.proofs.Common.{ne_eqb, true≢false}
 use Rattle.std.specs.Prelude.{count_by}
 use Rattle.std.proofs.lemmas.List.{get_or_past}
-use Rattle.std.proofs.lemmas.Bool.{cases_Bool, cases_eq, cases_lt, cases_order, and_parts, and_from, and_left, and_right, or_cases, or_from, or_left, or_right, false≢true}
+use Rattle.std.proofs.lemmas.Bool.{cases_Bool, cases_eq, cases_lt, cases_order, and_parts, and_from, and_left, and_right, or_cases, or_from, or_left}
+use Rattle.std.proofs.lemmas.Bool.{or_right, false≢true}
 use Rattle.std.proofs.lemmas.Bool.{false_from_ne_true, not_from_false}
 use Rattle.kc_lists.specs.Lists.{member, Distinct, below}
-use Rattle.kc_lists.proofs.Counting.{one_if, count-agree, count-le, count-mono, count-without, count-le-length, length-below, member-below, below-member, Distinct-below}
+use Rattle.kc_lists.proofs.Counting.{one_if, count-agree, count-le, count-mono, count-without, count-le-length, length-below, member-below}
+use Rattle.kc_lists.proofs.Counting.{below-member, Distinct-below}
 use Rattle.kc_lists.proofs.Shared.{get_or-any}
 use Rattle.kc_graph.specs.SimpleGraph.{SimpleGraph, adjacent, degree_among}
 use Rattle.kc_graph.specs.Certificate.{Certifies}

@@ -1,5 +1,6 @@
 -- Lists of edges that have each edge once.
-use Rattle.std.specs.Prelude.{◌<◌, ◌≢◌, ◌+◌, ◌==◌, ◌&&◌, ◌||◌, ℕ, Bool, true, not, List, [], ◌∷◌, Option, None, Some, All, AllPairs, ◌++◌, nat_lt, if◌then◌else◌}
+use Rattle.std.specs.Prelude.{◌<◌, ◌≢◌, ◌+◌, ◌==◌, ◌&&◌, ◌||◌, ℕ, Bool, true, not, List, [], ◌∷◌, Option, None, Some, All, AllPairs, ◌++◌, nat_lt}
+use Rattle.std.specs.Prelude.{if◌then◌else◌}
 use Rattle.kc_graph.specs.Bulk.{is_within}
 use Rattle.kc_graph.specs.declared.bulk.Edge.{Edge}
 use Rattle.kc_tally.specs.declared.fault.EdgeFault.{EdgeFault}

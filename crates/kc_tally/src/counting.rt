@@ -1,5 +1,6 @@
 //! The counts of a piece of the edges, added to those of others.
-ghost use Rattle.std.specs.Prelude.{◌≡◌, ◌<◌, ◌+◌, ◌++◌, ℕ, true, List, All, IfOk, IfErr, None, Some, length, nat_le, nat_lt, ◌||◌, ◌&&◌, ◌==◌, slice_index, slice_set, if◌then◌else◌};
+ghost use Rattle.std.specs.Prelude.{◌≡◌, ◌<◌, ◌+◌, ◌++◌, ℕ, true, List, All, IfOk, IfErr, None, Some, length, nat_le, nat_lt, ◌||◌, ◌&&◌, ◌==◌};
+ghost use Rattle.std.specs.Prelude.{slice_index, slice_set, if◌then◌else◌};
 ghost use Rattle.kc_graph.specs.Bulk.{is_within};
 ghost use Rattle.kc_graph.specs.declared.bulk.Edge.{Edge};
 ghost use Rattle.kc_tally.specs.Keys.{has_lesser_key};

@@ -49,13 +49,15 @@ wish-by : (name : Text) (rows : List Row) (check : Bool) → bytes_eq name (code
     (wish_for (task_in name rows) (text_in rows) (format_in (first_of (codes "format") rows)) (file_named (first_of (codes "output") rows))
     (is_set (first_of (codes "quiet") rows)))
 wish-by name rows check is =
-    ap (λ (b : Bool). cond b (check_wish (first_of (codes "CERTIFICATE") rows) (text_in rows) (is_set (first_of (codes "stream") rows)) (all_of (codes "pieces") rows))
+    ap (λ (b : Bool). cond b (check_wish (first_of (codes "CERTIFICATE") rows) (text_in rows) (is_set (first_of (codes "stream") rows))
+    (all_of (codes "pieces") rows))
     (wish_for (task_in name rows) (text_in rows) (format_in (first_of (codes "format") rows)) (file_named (first_of (codes "output") rows))
     (is_set (first_of (codes "quiet") rows)))) is
 
 -- what the command `check` asks for
 wish-check : (name : Text) (rows : List Row) → bytes_eq name (codes "check") ≡ true
-    → wish_about name rows ≡ check_wish (first_of (codes "CERTIFICATE") rows) (text_in rows) (is_set (first_of (codes "stream") rows)) (all_of (codes "pieces") rows)
+    → wish_about name rows
+    ≡ check_wish (first_of (codes "CERTIFICATE") rows) (text_in rows) (is_set (first_of (codes "stream") rows)) (all_of (codes "pieces") rows)
 wish-check name rows is = wish-by name rows true is
 
 -- the same of parts that are the same

@@ -5,15 +5,18 @@ use Rattle.kc_shard.proofs.round.h_index_round.Goals as goal
 
 pub longest_row-requires-clause-ascending : goal.longest_row-requires-clause-ascending
 longest_row-requires-clause-ascending c =
-    (faultless-shard (length c.args.next.now) (length c.args.numbers.now) c.args.offsets.now c.args.neighbours.now (sym c.first_fault.ensures ∙ c.in_default.is)).ascending
+    (faultless-shard (length c.args.next.now) (length c.args.numbers.now) c.args.offsets.now c.args.neighbours.now
+    (sym c.first_fault.ensures ∙ c.in_default.is)).ascending
 
 pub longest_row-requires-clause-short : goal.longest_row-requires-clause-short
 longest_row-requires-clause-short c =
-    (faultless-shard (length c.args.next.now) (length c.args.numbers.now) c.args.offsets.now c.args.neighbours.now (sym c.first_fault.ensures ∙ c.in_default.is)).short
+    (faultless-shard (length c.args.next.now) (length c.args.numbers.now) c.args.offsets.now c.args.neighbours.now
+    (sym c.first_fault.ensures ∙ c.in_default.is)).short
 
 pub fill-requires-clause-shard : goal.fill-requires-clause-shard
 fill-requires-clause-shard c =
-    faultless-shard (length c.args.next.now) (length c.args.numbers.now) c.args.offsets.now c.args.neighbours.now (sym c.first_fault.ensures ∙ c.in_default.is)
+    faultless-shard (length c.args.next.now) (length c.args.numbers.now) c.args.offsets.now c.args.neighbours.now
+    (sym c.first_fault.ensures ∙ c.in_default.is)
 
 pub returns-in-Ok-clause-settled : goal.returns-in-Ok-clause-settled
 returns-in-Ok-clause-settled c =
