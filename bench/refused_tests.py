@@ -36,9 +36,15 @@ EXPECTED = {
     ("kc_base_tests::dialogues", "assertion `left == right` failed"): "the wire in memory fails where it has no memory",
     ("kc_text_tests::texts", 'error: "refused"'): "the text can't be read",
     ("kc_order_tests::handing", "assertion failed: waiting.lock(rt).push_back(next).is_ok()"): "the queue can't grow",
+    ("kc_order_tests::arcs", "the arc closes no cycle"): "the arc can't be added",
+    ("kc_order_tests::racing_arcs", "the arc closes no cycle"): "the arc can't be added",
+    ("kc_order_tests::telling", "the arc closes no cycle"): "the arc can't be added",
     ("kc_agree_tests::histories", "nothing was stored between"): "the order can't be asked",
     ("kc_workers_tests::courses", 'error: "refused"'): "the input can't be read",
     ("kc_program_tests::ascending", '"no claims"'): "the claims can't be kept",
+    ("kc_program_tests::pieces", '"no claims"'): "the claims can't be kept",
+    ("kc_program_tests::pieces", '"no check"'): "the check can't begin",
+    ("kc_program_tests::pieces", '"the first piece is wrong"'): "the first piece can't be counted",
     ("kc_program_tests::streams", '"no claims"'): "the claims can't be kept",
 }
 
