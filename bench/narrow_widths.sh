@@ -6,7 +6,7 @@
 #
 # The crates are copied to a temporary folder, and the constants of the copy's kc_words/src/layout.rt are changed: `narrow` leaves just the
 # room that the contracts ask for. `groups` has groups of 4 items besides, by kc_list/src/limits.rt, so that groups split and run out of
-# labels all the time. Also with the usual widths, stress_order makes 2,000 rounds here, and stress_journal 40 batches of each graph that it
+# labels all the time. Also with the usual widths, stress_order makes 2,000 rounds here, and stress_journal 12 batches of each graph that it
 # opens: so many that a fresh table runs out of narrow versions, too. The part `held` of stress_journal has one table to its end, so it makes
 # just 20 updates where versions are narrow. The copy of each program writes lines of figures more: how often its tables were renewed, or how
 # many words it stored.
@@ -50,7 +50,7 @@ add_figures() {
         grep -q 'figures: ' "$copy/crates/$it/src/main.rt" || { echo "narrow_widths.sh: $it is another program by now" >&2; exit 2; }
     done
     set_in stress_order/src/rounds.rt ROUNDS=2_000
-    sed -i 's/^            batches: 3,$/            batches: 40,/' "$copy/crates/stress_journal/src/runs.rt"
+    sed -i 's/^            batches: 3,$/            batches: 12,/' "$copy/crates/stress_journal/src/runs.rt"
 }
 
 # VERSION GROUP BOTTOM TOP ITEM VERTEX CORE ITEMS VERTICES: the bits of the fields, and how many items and vertices there may be.
@@ -82,7 +82,7 @@ change_to() {
 
 # What the program has written, as its stdout has it: without the figures, and with the usual numbers of updates and batches.
 plain_out() {
-    sed -e '/^figures: /d' -e 's/after 20 updates/after 1000 updates/' -e 's/after 160 batches/after 12 batches/' "$copy/out"
+    sed -e '/^figures: /d' -e 's/after 20 updates/after 1000 updates/' -e 's/after 48 batches/after 12 batches/' "$copy/out"
 }
 
 failed=0
@@ -92,7 +92,7 @@ for program in $programs; do
         add_figures
         change_to "$width" "$program"
         echo "$program, $width:"
-        (cd "$copy/crates/$program" && rt try --seconds 600 ${1:+--} "$@" </dev/null >"$copy/out" 2>"$copy/told") || true
+        (cd "$copy/crates/$program" && rt try --seconds 3600 ${1:+--} "$@" </dev/null >"$copy/out" 2>"$copy/told") || true
         grep 'figures: \|^seed' "$copy/out" || true
         if ! grep -q '^run=ended status=0 ' "$copy/told"; then
             cat "$copy/out" "$copy/told"
