@@ -5,7 +5,8 @@
 
 GRAPH are edge lists without batches, named after their files; DIR of --peers holds `gen`, `peer_plain`, `peer_order` and `peer_igraph`.
 All times are processor time but where the clock is told, medians of --rounds runs (5) in turns: so other work on the machine falls on all
-alike. Where it is allowed the runs have a real-time priority. The outputs have to be the same, or the script ends with status 1.
+alike. Where it is allowed the runs have a real-time priority. The outputs have to be the same, or the script ends with status 1. With
+--only NAME,NAME.. it makes these tables alone: rest, updates, large, workers, check, tables, watch.
 """
 import argparse
 import json
@@ -18,7 +19,8 @@ import tempfile
 import time
 
 PRIORITY = 1
-ANEW = 20  # batches of one update, of which each has `plain` compute all anew
+ANEW = 20  # batches of one update, of which each has `plain` and igraph compute all anew
+LARGE = 10_000_000  # bytes of a graph that is not small
 
 
 def urgent():
@@ -70,6 +72,17 @@ class Series:
             subprocess.run(words, stdout=file, stderr=subprocess.DEVNULL, check=True)
         return path
 
+    def anew(self, peer, path):
+        """Milliseconds in which a yardstick computes all anew, the mean of the batches and the median of the rounds."""
+        told = [run([self.peers / peer, "summary"], path)[4] for _ in range(self.rounds)]
+        return statistics.median(json.loads(line)["batches_ms"] for line in told) / ANEW
+
+    def written(self, name, command, path=os.devnull):
+        """The file of this name with what a command writes."""
+        made = self.folder / name
+        made.write_bytes(run(command, path)[3])
+        return made
+
 
 def static(series, graphs):
     """Core numbers of a graph at rest."""
@@ -83,17 +96,16 @@ def static(series, graphs):
 
 def batches(series, graphs):
     """10,000 random updates in 100 batches, beside the same algorithm without proofs, and beside computing anew."""
-    print("| Graph | `kcore`, s | `order`, s | `kcore` / `order` | An update, microseconds | That of `order` | All anew by `plain`, a batch, ms |")
+    print("| Graph | `kcore`, s | `order`, s | `kcore` / `order` | An update, microseconds | That of `order` | All anew, a batch, ms: `plain`, igraph |")
     print("|---|---|---|---|---|---|---|")
     for graph in graphs:
         many, one, anew = series.stream(graph, 100, 100), series.stream(graph, 1, 1), series.stream(graph, ANEW, 1)
         commands = [[series.peers / "peer_order"], [series.kcore]]
         order, kcore = series.turns(commands, many)
         order_one, kcore_one = series.turns(commands, one)
-        plain = [run([series.peers / "peer_plain", "summary"], anew)[4] for _ in range(series.rounds)]
-        taken = statistics.median(json.loads(line)["batches_ms"] for line in plain) / ANEW
+        taken = [series.anew(peer, anew) for peer in ("peer_plain", "peer_igraph")]
         update, least = ((now[0] - before[0]) / 9_999 * 1e6 for now, before in ((kcore, kcore_one), (order, order_one)))
-        print(f"| {graph.stem} | {kcore[0]:.2f} | {order[0]:.2f} | {kcore[3]:.1f} | {update:.1f} | {least:.2f} | {taken:.0f} |", flush=True)
+        print(f"| {graph.stem} | {kcore[0]:.2f} | {order[0]:.2f} | {kcore[3]:.1f} | {update:.1f} | {least:.2f} | {taken[0]:.0f}, {taken[1]:.0f} |", flush=True)
 
 
 def large_batches(series, graphs):
@@ -120,24 +132,76 @@ def workers(series, graphs):
         print(f"| {graph.stem}, 100 batches of {size} | " + " | ".join(cells) + " |", flush=True)
 
 
+def checks(series, graphs):
+    """A certificate checked beside the core numbers computed, edges ascending."""
+    print("| Graph, sorted | `numbers`, ms | `check` by order, by layers | With `--stream` | Memory: `numbers`, `check`, `--stream`, MB |")
+    print("|---|---|---|---|---|")
+    for graph in graphs:
+        edges = series.folder / f"{graph.stem}.sorted.txt"
+        # (the lesser id of each edge first, so that the lines ascend)
+        order = "grep -v '^[#%]' \"$1\" | awk '$1 != $2 { print ($1 < $2 ? $1 \" \" $2 : $2 \" \" $1) }' | LC_ALL=C sort -n -u -k1,1 -k2,2 > \"$2\""
+        subprocess.run(["sh", "-c", order, "sh", graph, edges], check=True)
+        made = [series.written(f"{graph.stem}.{each}", [series.cores, each, edges]) for each in ("order", "layers")]
+        commands = [[series.cores, "numbers", edges]]
+        commands += [[series.cores, "check", *more, each, edges] for more in ((), ("--stream",)) for each in made]
+        numbers, *told = series.turns(commands, os.devnull, same=False)
+        ratios = [f"{each[3]:.2f}" for each in told]
+        memory = ", ".join(f"{each[2]:.0f}" for each in (numbers, told[0], told[2]))
+        print(f"| {graph.stem} | {numbers[0] * 1e3:.0f} | {ratios[0]}, {ratios[1]} | {ratios[2]}, {ratios[3]} | {memory} |", flush=True)
+
+
+def tables(series, graphs):
+    """The same graph read as a table, beside none of the options."""
+    print("| Graph | `numbers`, ms | `--columns 1,2 --separator blank` | as CSV, `--separator comma` |")
+    print("|---|---|---|---|")
+    for graph in graphs:
+        csv = series.folder / f"{graph.stem}.csv"
+        subprocess.run(["sh", "-c", "grep -v '^[#%]' \"$1\" | tr ' \\t' ',,' > \"$2\"", "sh", graph, csv], check=True)
+        options = [[graph], ["--columns", "1,2", "--separator", "blank", graph], ["--separator", "comma", csv]]
+        none, blank, comma = series.turns([[series.cores, "numbers", *each] for each in options], os.devnull)
+        print(f"| {graph.stem} | {none[0] * 1e3:.0f} | {blank[3]:.2f} | {comma[3]:.2f} |", flush=True)
+
+
+def watched(series, graphs):
+    """A stream that is answered, beside the batch tool on the same text, and beside `plain` where one batch has all edges."""
+    print("| Graph | `watch`, 100 batches of 100, beside `kcore --show summary` | One batch with all edges, beside `plain` |")
+    print("|---|---|---|")
+    for graph in graphs:
+        many = series.stream(graph, 100, 100)
+        kcore, watch = series.turns([[series.kcore, "--show", "summary"], [series.cores, "watch"]], many, same=False)
+        edges = series.folder / f"{graph.stem}.one.txt"
+        subprocess.run(["sh", "-c", "(echo batch; grep -v '^[#%]' \"$1\" | sed 's/^/+ /') > \"$2\"", "sh", graph, edges], check=True)
+        plain, whole = series.turns([[series.peers / "peer_plain", "summary"], [series.cores, "watch"]], edges, same=False)
+        print(f"| {graph.stem} | {watch[3]:.2f} | {whole[3]:.2f} |", flush=True)
+
+
 def main():
     words = argparse.ArgumentParser(description=__doc__, formatter_class=argparse.RawDescriptionHelpFormatter)
     words.add_argument("--kcore", required=True)
     words.add_argument("--cores", required=True)
     words.add_argument("--peers", required=True)
     words.add_argument("--rounds", type=int, default=5)
+    words.add_argument("--only", type=lambda names: names.split(","), default=[])
     words.add_argument("graphs", nargs="+", type=pathlib.Path)
     chosen = words.parse_args()
     series, graphs = Series(chosen), chosen.graphs
-    small = [graph for graph in graphs if graph.stat().st_size < 10_000_000]
-    print("Core numbers of a graph at rest:\n")
-    static(series, graphs)
-    print("\n10,000 random updates in 100 batches:\n")
-    batches(series, [graph for graph in graphs if "star" not in graph.stem and "er-" not in graph.stem])
-    print("\nOne large batch:\n")
-    large_batches(series, [graph for graph in small if "star" not in graph.stem])
-    print("\nSeveral workers, the clock and the processor time beside one worker:\n")
-    workers(series, [(graph, 1000 if graph in set(graphs) - set(small) else 100) for graph in graphs if "star" not in graph.stem and "ba-" not in graph.stem])
+    small = [graph for graph in graphs if graph.stat().st_size < LARGE]
+    real = [graph for graph in small if "star" not in graph.stem]
+    mixed = [graph for graph in graphs if not graph.stem.startswith(("star", "ba-"))]
+    parts = {
+        "rest": ("Core numbers of a graph at rest", static, graphs),
+        "updates": ("10,000 random updates in 100 batches", batches, [graph for graph in graphs if not graph.stem.startswith(("star", "er-"))]),
+        "large": ("One large batch", large_batches, real),
+        "workers": ("Several workers, the clock and the processor time beside one worker", workers,
+                    [(graph, 100 if graph in small else 1000) for graph in mixed]),
+        "check": ("A certificate that is checked, beside `cores numbers`", checks, mixed),
+        "tables": ("Tables beside plain edge lists", tables, mixed),
+        "watch": ("A stream that is answered", watched, real),
+    }
+    for name, (title, make, these) in parts.items():
+        if not chosen.only or name in chosen.only:
+            print(f"\n{title}:\n", flush=True)
+            make(series, these)
 
 
 main()
