@@ -11,10 +11,11 @@ ghost use Rattle.kc_flat.specs.Pairs.{AreWithin};
 ghost use Rattle.kc_flat.specs.Parts.{part, Fills};
 
 use crate::NoMemory;
+use crate::gathering::gather;
 use crate::packing::drop_repeats;
 use crate::parts::part_of;
 use crate::sorting::sort_parts;
-use kc_graph::gathering::{Gathered, gather};
+use kc_graph::gathering::Gathered;
 use std::alloc::Global;
 use std::marker::Model;
 
@@ -121,6 +122,19 @@ impl FlatGraph {
     {
         part_of(&self.block, &self.ends, v as usize)
     }
+
+    /// The number at the end of a vertex's row, or 0. Nothing is promised of it: who asks has the row in the cache afterwards.
+    pub(crate) fn look_at(&self, v: u32) -> u32 {
+        let end = match self.ends.get(v as usize) {
+            Some(end) => *end,
+            None => 0,
+        };
+        match self.block.get(end.saturating_sub(1)) {
+            Some(number) => *number,
+            None => 0,
+        }
+    }
+
     /// The edges, each once with its lesser end first, ascending by this end and then by the other one. The list takes 8 bytes an edge,
     /// and `NoMemory` comes where there is none for it. The clauses say also that it has pairs of two vertices, and that its set is that of the
     /// edges.

@@ -8,10 +8,12 @@
 //!
 //! In clauses the graph is the `SimpleGraph` of `kc_graph`, so its definitions say what neighbours, core numbers and certificates are.
 //! `specs/Pairs.antt` says what is asked of pairs, `specs/Listing.antt` how the edges of a graph are listed, `specs/Parts.antt` how the array is
-//! cut, `specs/Bins.antt` what the bins keep, and `specs/Holders.antt` who is in a bin. The crate stands on `kc_graph` and `kc_lists`.
+//! cut, `specs/Bins.antt` what the bins keep, and `specs/Holders.antt` who is in a bin. The crate stands on `kc_graph`, `kc_lists` and
+//! `kc_progress`, whose traits tell which core number is being taken.
 #![tactic(auto)]
 
 mod bins;
+mod gathering;
 mod graph;
 mod packing;
 mod parts;
@@ -20,4 +22,4 @@ mod sorting;
 
 pub use graph::FlatGraph;
 pub use kc_graph::NoMemory;
-pub use peeling::{Decomposition, core_numbers, decompose};
+pub use peeling::{Decomposition, core_numbers, decompose, decompose_telling};

@@ -13,7 +13,14 @@ ghost use Rattle.kc_flat.specs.Bins.{AreBinned, LoseOne};
 use crate::NoMemory;
 use crate::bins::{Bins, binned, lower};
 use crate::graph::FlatGraph;
+use kc_progress::{Progress, Silent};
 use std::alloc::Global;
+
+/// A progress is told of one vertex in so many that are taken, so that this takes no time.
+const TOLD: usize = 4_096;
+
+/// The row of a vertex is looked at so many turns before it is taken, so that it has come into the cache by then.
+const AHEAD: usize = 8;
 
 /// Core numbers of a graph, indexed by the vertex, and an order of its vertices that certifies them: the numbers never fall along it,
 /// and each vertex has at most as many later neighbours as its number (Zhang, Yu, Zhang and Qin 2017).
@@ -61,13 +68,30 @@ fn lower_each(
     }
 }
 
+/// Looks at the row of the vertex that is to be taken so many turns later, and gives a number of it, or 0.
+fn look_ahead(graph: &FlatGraph, order: &[u32], turn: usize) -> u32 {
+    match order.get(turn.saturating_add(AHEAD)) {
+        Some(v) => graph.look_at(*v),
+        None => 0,
+    }
+}
+
+/// Tells the core number of the vertex whose turn it is, at some turns. A row was looked at: no number there is `u32::MAX`. That it is asked
+/// for is the use of the look, which a compiler leaves out else.
+fn tell_turn<P: Progress>(progress: &P, turn: usize, core: u32, looked: u32) {
+    if turn % TOLD == 0 || looked == u32::MAX {
+        progress.peeled(core);
+    }
+}
+
 /// Takes all vertices, in the order that the bins have when the turn of each comes.
-fn take_all(
+fn take_all<P: Progress>(
     graph: &FlatGraph,
     core: &mut [u32],
     order: &mut [u32],
     places: &mut [u32],
     ends: &mut [usize],
+    progress: &P,
 )
     requires binned { AreBinned core.old order.old places.old ends.old }
     requires count { length core.old ≡ graph.now.size }
@@ -78,6 +102,7 @@ fn take_all(
     for turn in 0..order.len() {
         let v = order[turn];
         let level = core[v as usize];
+        tell_turn(progress, turn, level, look_ahead(graph, order, turn));
         lower_each(graph.neighbours(v), level, core, order, places, ends);
     }
 }
@@ -98,13 +123,32 @@ fn take_all(
 pub fn decompose(alloc: Global, graph: &FlatGraph) -> Result<Decomposition, NoMemory>
     ensures { IfOk result (λ d. Certifies graph.now d.core.items d.order.items) }
 {
+    decompose_telling(alloc, graph, &Silent)
+}
+
+/// What `decompose` gives, in its time and its memory. The progress is told now and then which core number the vertices have that are
+/// taken.
+pub fn decompose_telling<P: Progress>(
+    alloc: Global,
+    graph: &FlatGraph,
+    progress: &P,
+) -> Result<Decomposition, NoMemory>
+    ensures { IfOk result (λ d. Certifies graph.now d.core.items d.order.items) }
+{
     let mut core = degrees_of(alloc, graph)?;
     let Bins {
         mut order,
         mut places,
         mut ends,
     } = binned(alloc, &core)?;
-    take_all(graph, &mut core, &mut order, &mut places, &mut ends);
+    take_all(
+        graph,
+        &mut core,
+        &mut order,
+        &mut places,
+        &mut ends,
+        progress,
+    );
     Ok(Decomposition { core, order })
 }
 

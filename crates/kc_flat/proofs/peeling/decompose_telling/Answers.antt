@@ -2,13 +2,13 @@
 use Rattle.std.proofs.Common.{◌<◌, ℕ, List, [], length, ap, arith}
 use Rattle.kc_graph.specs.Peeling.{at}
 use Rattle.kc_graph.proofs.PeelingLemmas.{remaining-lt}
-use Rattle.kc_flat.proofs.peeling.decompose.Goals as goal
+use Rattle.kc_flat.proofs.peeling.decompose_telling.Goals as goal
 
 pub binned-requires-clause-few : goal.binned-requires-clause-few
-binned-requires-clause-few c = omega (arith, ap length c.deref.ensures.value, c.in_ok-core.ensures.count, c.in_ok-core.ensures.few)
+binned-requires-clause-few g c = omega (arith, ap length c.deref.ensures.value, c.in_ok-core.ensures.count, c.in_ok-core.ensures.few)
 
 pub binned-requires-clause-low : goal.binned-requires-clause-low
-binned-requires-clause-low c v l =
+binned-requires-clause-low g c v l =
     let lv : v < c.args.graph.now.size = omega (arith, l, ap length c.deref.ensures.value, c.in_ok-core.ensures.count) in
     omega (
       arith,
@@ -19,4 +19,4 @@ binned-requires-clause-low c v l =
     )
 
 pub take_all-requires-clause-few : goal.take_all-requires-clause-few
-take_all-requires-clause-few c = omega (arith, ap length c.deref_mut.ensures.value, c.in_ok-core.ensures.count, c.in_ok-core.ensures.few)
+take_all-requires-clause-few g c = omega (arith, ap length c.deref_mut.ensures.value, c.in_ok-core.ensures.count, c.in_ok-core.ensures.few)
