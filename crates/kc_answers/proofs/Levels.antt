@@ -1,24 +1,21 @@
 -- The numbers that come, in ascending order, and how often each comes.
-use Rattle.std.proofs.Common.{◌≡◌, ◌≤◌, ◌<◌, ◌+◌, ℕ, zero, suc, Bool, true, false, cond, List, [], ◌∷◌, ◌++◌, refl, sym, ap, ap₂, ◌∙◌, arith, append-nil}
-use Rattle.std.proofs.Common.{drop, eq-eqb, length, nat_eq, subst, take, max, inl, inr}
+use Rattle.std.proofs.Common.{◌≡◌, ◌≤◌, ◌<◌, ◌+◌, ℕ, zero, suc, Bool, true, false, cond, List, [], ◌∷◌, ◌++◌, refl, sym, ap, ◌∙◌, arith, append-nil}
+use Rattle.std.proofs.Common.{eq-eqb, length, map, nat_eq, subst, max, inl, inr}
 use Rattle.std.specs.Cmp.{both_ways}
-use Rattle.std.specs.Io.{StartsWith}
 use Rattle.std.specs.Prelude.{All, fold, slice_index}
-use Rattle.std.specs.List.{flat_map}
 use Rattle.std.specs.List.Sorted.{IsStrictlyIncreasing}
 use Rattle.std.proofs.lemmas.Bool.{cases_eq, false≢true, ne_eqb}
-use Rattle.std.proofs.lemmas.Grind.{flat_map-append}
-use Rattle.std.proofs.lemmas.List.{length-take, take-append-drop, take-append-le}
+use Rattle.std.proofs.lemmas.List.{map-append}
 use Rattle.std.proofs.lemmas.List.Elements.{All-cons, All-nil, All-push, All-weaker}
 use Rattle.kc_lists.specs.Lists.{member, times}
 use Rattle.kc_lists.proofs.Counting.{Contains-from_member, member-push_cases, member_times, times_member}
 use Rattle.kc_lists.proofs.Members.{member-append_left, member-append_right, member-head}
 use Rattle.kc_graph.specs.Core.{greatest}
 use Rattle.kc_text.proofs.Marks.{increasing-push}
-use Rattle.kc_changes.specs.Changed.{ascending_ids}
 use Rattle.kc_changes.proofs.Ascending.{ascending-is}
-use Rattle.kc_answers.specs.Answers.{size_field}
-use Rattle.kc_answers.specs.Fields.{count_field, fields_below}
+use Rattle.kc_answers.specs.Answers.{size_of, sizes_of}
+use Rattle.kc_answers.specs.Counted.{counted, counted_below}
+use Rattle.kc_reply.specs.declared.level_size.LevelSize.{LevelSize}
 
 -- The greatest number. --------------------------------------------------------------------------------------
 
@@ -44,18 +41,18 @@ abbrev levels_below : List ℕ → ℕ → List ℕ
 levels_below core zero = []
 levels_below core (suc n) = cond (nat_eq (times n core) 0) (levels_below core n) (levels_below core n ++ n ∷ [])
 
--- their fields are put one after another, where it is counted how often each number comes
-fields-are : (core counts : List ℕ) (n : ℕ) → ((k : ℕ) → k < n → slice_index counts k ≡ times k core)
-    → flat_map (size_field core) (levels_below core n) ≡ fields_below counts n
-fields-are core counts zero each = refl
-fields-are core counts (suc n) each =
-    let before : flat_map (size_field core) (levels_below core n) ≡ fields_below counts n = fields-are core counts n (λ k l. each k (omega (arith, l))) in
-    elim (nat_eq (times n core) 0) as (λ b. flat_map (size_field core) (cond b (levels_below core n) (levels_below core n ++ n ∷ []))
-    ≡ fields_below counts n ++ cond b [] (size_field core n)) [
-      | true ↦ before ∙ sym (append-nil (fields_below counts n))
-      | false ↦ flat_map-append (size_field core) (levels_below core n) (n ∷ []) ∙ ap₂ (λ (a b : List ℕ). a ++ b) before (append-nil (size_field core n))
+-- they are counted one after another, where it is counted how often each number comes
+counted-are : (core counts : List ℕ) (n : ℕ) → ((k : ℕ) → k < n → slice_index counts k ≡ times k core)
+    → map (size_of core) (levels_below core n) ≡ counted_below counts n
+counted-are core counts zero each = refl
+counted-are core counts (suc n) each =
+    let before : map (size_of core) (levels_below core n) ≡ counted_below counts n = counted-are core counts n (λ k l. each k (omega (arith, l))) in
+    elim (nat_eq (times n core) 0) as (λ b. map (size_of core) (cond b (levels_below core n) (levels_below core n ++ n ∷ []))
+    ≡ counted_below counts n ++ cond b [] (size_of core n ∷ [])) [
+      | true ↦ before ∙ sym (append-nil (counted_below counts n))
+      | false ↦ map-append (size_of core) (levels_below core n) (n ∷ []) ∙ ap (λ (l : List LevelSize). l ++ size_of core n ∷ []) before
     ]
-    ∙ ap (λ (t : ℕ). fields_below counts n ++ count_field n t) (sym (each n (omega arith)))
+    ∙ ap (λ (t : ℕ). counted_below counts n ++ counted n t) (sym (each n (omega arith)))
 
 -- each of them is below the bound
 levels-low : (core : List ℕ) (n : ℕ) → All (λ y. y < n) (levels_below core n)
@@ -116,27 +113,19 @@ levels-all core (suc n) q l m = elim (cases_eq q n) [
     counted t some = ne_eqb t 0 (λ e. omega (arith, some, e))
 
 -- All numbers that come, in ascending order, are those below the next one after the greatest.
-pub fields-of_all : (core counts : List ℕ) → length counts ≡ greatest core + 1 → ((k : ℕ) → k < length counts → slice_index counts k ≡ times k core)
-    → flat_map (size_field core) (ascending_ids core) ≡ fields_below counts (length counts)
-fields-of_all core counts is each =
+pub counted-of_all : (core counts : List ℕ) → length counts ≡ greatest core + 1 → ((k : ℕ) → k < length counts → slice_index counts k ≡ times k core)
+    → sizes_of core ≡ counted_below counts (length counts)
+counted-of_all core counts is each =
     let n : ℕ = length counts in
-    ap (flat_map (size_field core)) (ascending-is (levels_below core n) core (levels-ascend core n) (λ q.
+    ap (map (size_of core)) (ascending-is (levels_below core n) core (levels-ascend core n) (λ q.
     both_ways (member q (levels_below core n)) (member q core) (levels-come core n q) (λ m.
     let (k, low, at) = Contains-from_member core q m in
     levels-all core n q (subst (λ (x : ℕ). x < n) at (below-next core n is k q low)) m)))
-    ∙ fields-are core counts n each
+    ∙ counted-are core counts n each
 
--- the fields with those of one number more
-pub fields-more : (counts : List ℕ) (n : ℕ) → fields_below counts (n + 1) ≡ fields_below counts n ++ count_field n (slice_index counts n)
-fields-more counts n = ap (fields_below counts) (one-more n)
+-- those with one number more
+pub counted-more : (counts : List ℕ) (n : ℕ) → counted_below counts (n + 1) ≡ counted_below counts n ++ counted n (slice_index counts n)
+counted-more counts n = ap (counted_below counts) (one-more n)
   where
     one-more : (m : ℕ) → m + 1 ≡ suc m
     one-more m = omega arith
-
--- what begins with a text that begins with another one begins with that
-pub starts-further : (first second third : List ℕ) → StartsWith second first → StartsWith third second → StartsWith third first
-starts-further first second third one two =
-    let rest : List ℕ = drop (length second) third in
-    let whole : third ≡ second ++ rest = sym (take-append-drop (length second) third) ∙ ap (λ (t : List ℕ). t ++ rest) two in
-    let few : length first ≤ length second = omega (arith, ap length one, length-take (length first) second) in
-    ap (take (length first)) whole ∙ take-append-le (length first) second rest few ∙ one

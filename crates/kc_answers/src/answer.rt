@@ -1,14 +1,16 @@
 //! The line that answers a question.
-ghost use Rattle.std.specs.Prelude.{◌≡◌, ◌≤◌, ◌++◌, ℕ, true, List, OnErr, OnOk, length, take};
-ghost use Rattle.std.specs.Io.{StartsWith};
-ghost use Rattle.kc_answers.specs.Answers.{answer_to, core_answer, needs_layers, number_by};
+ghost use Rattle.std.specs.Prelude.{◌≡◌, ◌≤◌, ◌<◌, ◌++◌, ◌^◌, true, OnErr, OnOk, length, take};
+ghost use Rattle.kc_answers.specs.Answers.{answer_to, members_by, needs_layers, number_by, sizes_of};
+ghost use Rattle.kc_reply.specs.Facts as fact;
+ghost use Rattle.kc_reply.specs.Texts.{fact_text};
 
 use crate::NoMemory;
 use crate::finding::known_number;
-use crate::listing::put_members;
-use crate::order::put_order;
-use crate::pieces::{end_line, put_field, put_number_field};
-use crate::sizes::put_sizes;
+use crate::listing::members_by;
+use crate::numbers::Numbers;
+use crate::order::standing_by;
+use crate::sizes::sizes_of;
+use kc_reply::{ReplyFormat, ReplyLine, put_reply_line};
 use kc_stream::{Ids, Question};
 use std::alloc::Global;
 
@@ -22,40 +24,43 @@ fn core_of(ids: &Ids, core: &[u32], id: u32) -> Option<u32>
     }
 }
 
-/// Puts the line of the core number of an id, where it has one.
-fn put_core(out: &mut Vec<u8>, id: u32, number: Option<u32>) -> Result<(), NoMemory>
-    ensures ok { OnOk result ((ids core : List ℕ) → number ≡ number_by ids core id → out.new.items ≡ out.old.items ++ core_answer ids core id) }
-    ensures kept { StartsWith out.new.items out.old.items }
-{
-    put_field(out, "core ", id)?;
-    put_number_field(out, number)?;
-    end_line(out)
-}
-
-/// Puts the line that answers a question, or a part of it where there is no memory.
-fn put_line(
+/// Puts the line of the ids of the core of a level.
+fn put_members(
     alloc: Global,
-    ids: &Ids,
+    ids: &[u32],
     core: &[u32],
-    layer: &[u32],
-    question: Question,
+    level: u32,
+    format: ReplyFormat,
     out: &mut Vec<u8>,
 ) -> Result<(), NoMemory>
-    requires known { length core.now ≤ length ids.now }
-    requires layered { needs_layers question ≡ true → length layer.now ≡ length core.now }
-    ensures ok { OnOk result (out.new.items ≡ out.old.items ++ answer_to question (take (length core.now) ids.now) core.now layer.now) }
-    ensures kept { StartsWith out.new.items out.old.items }
+    requires { length ids.now ≡ length core.now }
+    ensures ok { OnOk result (out.new.items ≡ out.old.items ++ fact_text format (fact.Members level (members_by ids.now core.now level))) }
+    ensures err { OnErr result (out.new.items ≡ out.old.items) }
 {
-    let _count = ids.count();
-    match question {
-        Question::Core(id) => put_core(out, id, core_of(ids, core, id)),
-        Question::Members(level) => {
-            let known = &ids.names()[..core.len()];
-            put_members(alloc, known, core, level, out)
-        }
-        Question::Sizes => put_sizes(alloc, core, out),
-        Question::Order(a, b) => put_order(ids, core, layer, (a, b), out),
-    }
+    let listed = members_by(alloc, ids, core, level)?;
+    put_reply_line(
+        out,
+        format,
+        ReplyLine::Members {
+            level,
+            ids: &listed,
+        },
+    )
+}
+
+/// Puts the line that tells how many vertices have each core number.
+fn put_sizes(
+    alloc: Global,
+    core: &[u32],
+    format: ReplyFormat,
+    out: &mut Vec<u8>,
+) -> Result<(), NoMemory>
+    requires { length core.now < 2 ^ 32 }
+    ensures ok { OnOk result (out.new.items ≡ out.old.items ++ fact_text format (fact.Sizes (sizes_of core.now))) }
+    ensures err { OnErr result (out.new.items ≡ out.old.items) }
+{
+    let sizes = sizes_of(alloc, core)?;
+    put_reply_line(out, format, ReplyLine::Sizes { sizes: &sizes })
 }
 
 /// Whether the answer to a question speaks of layers.
@@ -75,37 +80,59 @@ pub fn needs_layers(question: Question) -> bool
 /// # Example
 ///
 /// ```rust
-/// use kc_answers::put_answer;
+/// use kc_answers::{Numbers, put_answer};
+/// use kc_reply::ReplyFormat;
 /// use kc_stream::{Ids, Question};
 ///
 /// let mut ids = Ids::new(alloc);
 /// ids.name_both(30, 20)?;
 /// ids.name(10)?;
-/// let (core, layer) = ([1, 1], [0, 0]); // of 30 and of 20, and none of 10
+/// let numbers = Numbers { core: &[1, 1], layer: &[0, 0] }; // of 30 and of 20, and none of 10
+/// let words = ReplyFormat::Words;
 /// let mut out = Vec::new(alloc);
-/// put_answer(alloc, &ids, &core, &layer, Question::Core(20), &mut out)?; // "core 20 1\n"
-/// put_answer(alloc, &ids, &core, &layer, Question::Core(10), &mut out)?; // "core 10 -\n"
-/// put_answer(alloc, &ids, &core, &layer, Question::Members(1), &mut out)?; // "members 1 20 30\n"
-/// put_answer(alloc, &ids, &core, &layer, Question::Sizes, &mut out)?; // "sizes 1 2\n"
-/// put_answer(alloc, &ids, &core, &layer, Question::Order(20, 30), &mut out)?; // "order 20 30 before\n"
+/// put_answer(alloc, &ids, numbers, Question::Core(20), words, &mut out)?; // "core 20 1\n"
+/// put_answer(alloc, &ids, numbers, Question::Core(10), words, &mut out)?; // "core 10 -\n"
+/// put_answer(alloc, &ids, numbers, Question::Members(1), words, &mut out)?; // "members 1 20 30\n"
+/// put_answer(alloc, &ids, numbers, Question::Sizes, words, &mut out)?; // "sizes 1 2\n"
+/// put_answer(alloc, &ids, numbers, Question::Order(20, 30), words, &mut out)?; // "order 20 30 before\n"
 /// ```
 pub fn put_answer(
     alloc: Global,
     ids: &Ids,
-    core: &[u32],
-    layer: &[u32],
+    numbers: Numbers<'_>,
     question: Question,
+    format: ReplyFormat,
     out: &mut Vec<u8>,
 ) -> Result<(), NoMemory>
-    requires known { length core.now ≤ length ids.now }
-    requires layered { needs_layers question ≡ true → length layer.now ≡ length core.now }
-    ensures ok { OnOk result (out.new.items ≡ out.old.items ++ answer_to question (take (length core.now) ids.now) core.now layer.now) }
+    requires known { length numbers.core.now ≤ length ids.now }
+    requires layered { needs_layers question ≡ true → length numbers.layer.now ≡ length numbers.core.now }
+    ensures ok { OnOk result (out.new.items ≡ out.old.items ++ fact_text format
+        (answer_to question (take (length numbers.entry.core.now) ids.now) numbers.entry.core.now numbers.entry.layer.now)) }
     ensures err { OnErr result (out.new.items ≡ out.old.items) }
 {
-    let before = out.len();
-    let put = put_line(alloc, ids, core, layer, question, out);
-    if put.is_err() {
-        out.truncate(before);
+    let _count = ids.count();
+    let Numbers { core, layer } = numbers;
+    match question {
+        Question::Core(id) => {
+            let core = core_of(ids, core, id);
+            put_reply_line(out, format, ReplyLine::Core { id, core })
+        }
+        Question::Members(level) => {
+            let known = &ids.names()[..core.len()];
+            put_members(alloc, known, core, level, format, out)
+        }
+        Question::Sizes => put_sizes(alloc, core, format, out),
+        Question::Order(first, second) => {
+            let standing = standing_by(ids, core, layer, first, second);
+            put_reply_line(
+                out,
+                format,
+                ReplyLine::Order {
+                    first,
+                    second,
+                    standing,
+                },
+            )
+        }
     }
-    put
 }

@@ -1,14 +1,13 @@
 //! How many vertices have each core number.
 ghost use Rattle.std.specs.Prelude.{◌≡◌, ◌<◌, ◌≤◌, ◌+◌, ◌^◌, ◌++◌, ℕ, All, IfOk, OnOk, length, slice_index};
-ghost use Rattle.std.specs.Io.{StartsWith};
-ghost use Rattle.kc_answers.specs.Answers.{sizes_answer};
-ghost use Rattle.kc_answers.specs.Fields.{count_field, fields_below};
+ghost use Rattle.kc_answers.specs.Answers.{sizes_of};
+ghost use Rattle.kc_answers.specs.Counted.{counted, counted_below};
 ghost use Rattle.kc_graph.specs.Core.{greatest};
 ghost use Rattle.kc_lists.specs.Lists.{times};
 
 use crate::NoMemory;
-use crate::pieces::{end_line, put_field};
 use kc_graph::greatest;
+use kc_reply::LevelSize;
 use std::alloc::Global;
 
 /// Counts how often each number comes.
@@ -37,38 +36,37 @@ fn counts_of(alloc: Global, numbers: &[u32]) -> Result<Vec<u32>, NoMemory>
     Ok(counts)
 }
 
-/// Puts the field of a number that comes so often, and nothing for one that does not come.
-fn put_count(out: &mut Vec<u8>, number: u32, count: u32) -> Result<(), NoMemory>
-    ensures ok { OnOk result (out.new.items ≡ out.old.items ++ count_field number count) }
-    ensures kept { StartsWith out.new.items out.old.items }
+/// Lists a number that comes so often, and not one that does not come.
+fn list_count(listed: &mut Vec<LevelSize>, number: u32, count: u32) -> Result<(), NoMemory>
+    ensures { OnOk result (listed.new.items ≡ listed.old.items ++ counted number count) }
 {
     if count == 0 {
         return Ok(());
     }
-    put_field(out, " ", number)?;
-    put_field(out, " ", count)
-}
-
-/// Puts the fields of the numbers that come, where it is counted how often.
-fn put_counts(out: &mut Vec<u8>, counts: &[u32]) -> Result<(), NoMemory>
-    requires { length counts.now ≤ 2 ^ 32 }
-    ensures ok { OnOk result (out.new.items ≡ out.old.items ++ fields_below counts.now (length counts.now)) }
-    ensures kept { StartsWith out.new.items out.old.items }
-{
-    for (number, count) in counts.iter().enumerate() {
-        put_count(out, number as u32, *count)?;
-    }
+    listed.push(LevelSize {
+        core: number,
+        vertices: count,
+    })?;
     Ok(())
 }
 
-/// Puts the line that tells how many vertices have each core number.
-pub(crate) fn put_sizes(alloc: Global, core: &[u32], out: &mut Vec<u8>) -> Result<(), NoMemory>
+/// The numbers that come, ascending, where it is counted how often each comes.
+fn list_counts(alloc: Global, counts: &[u32]) -> Result<Vec<LevelSize>, NoMemory>
+    requires { length counts.now ≤ 2 ^ 32 }
+    ensures { IfOk result (λ listed. listed.items ≡ counted_below counts.now (length counts.now)) }
+{
+    let mut listed = Vec::new(alloc);
+    for (number, count) in counts.iter().enumerate() {
+        list_count(&mut listed, number as u32, *count)?;
+    }
+    Ok(listed)
+}
+
+/// How many vertices have each core number that some vertex has, ascending.
+pub(crate) fn sizes_of(alloc: Global, core: &[u32]) -> Result<Vec<LevelSize>, NoMemory>
     requires { length core.now < 2 ^ 32 }
-    ensures ok { OnOk result (out.new.items ≡ out.old.items ++ sizes_answer core.now) }
-    ensures kept { StartsWith out.new.items out.old.items }
+    ensures { IfOk result (λ sizes. sizes.items ≡ sizes_of core.now) }
 {
     let counts = counts_of(alloc, core)?;
-    out.extend_from_slice(b"sizes")?;
-    put_counts(out, &counts)?;
-    end_line(out)
+    list_counts(alloc, &counts)
 }

@@ -1,8 +1,10 @@
 //! Dialogues over wires in memory.
 use crate::echo::Echo;
-use kc_dialogue::answer::answer_wire;
+use kc_dialogue::answer::{answer_opened, answer_wire};
 use kc_dialogue::end::DialogueEnd;
+use kc_dialogue::open::open_with;
 use kc_io::NoMemory;
+use kc_io::mem_source::MemSource;
 use kc_wire::event::MemEvent;
 use kc_wire::faults::WireFaults;
 use kc_wire::hindrances::Hindrances;
@@ -53,9 +55,13 @@ fn wire_of(alloc: Global, input: &[u8], snags: Snags) -> Result<MemWire, NoMemor
     Ok(MemWire::new(alloc, Vec::from_slice(alloc, input)?, hindrances))
 }
 
-/// What was written in all. At each read just what is said of the bytes read before was written.
-fn written<R: Abort + AllocGlobal>(rt: &R, events: &[MemEvent]) -> Result<Vec<u8>, NoMemory> {
-    let mut read: Vec<u8> = Vec::new(rt.alloc());
+/// What was written in all. At each read just what is said of the bytes in front and of those read before was written.
+fn written<R: Abort + AllocGlobal>(
+    rt: &R,
+    front: &[u8],
+    events: &[MemEvent],
+) -> Result<Vec<u8>, NoMemory> {
+    let mut read: Vec<u8> = Vec::from_slice(rt.alloc(), front)?;
     let mut written: Vec<u8> = Vec::new(rt.alloc());
     for event in events {
         match event {
@@ -78,7 +84,7 @@ fn check<R: Abort + AllocGlobal>(
 ) {
     let mut wire = wire_of(rt.alloc(), input, snags).expect(rt, "no memory");
     let end = answer_wire(rt.alloc(), &mut wire, &mut Echo { stopped: false });
-    let written = written(rt, wire.events()).expect(rt, "no memory");
+    let written = written(rt, b"", wire.events()).expect(rt, "no memory");
     assert_eq!(rt; (end, written.as_slice(), wire.faults()), wanted);
 }
 
@@ -167,5 +173,71 @@ fn a_write_that_fails_ends_with_a_front_of_its_text(rt: HostRuntime) {
     check_write_fault(&rt);
     for room in 0..7 {
         check_departure(&rt, room);
+    }
+}
+
+/// A text in front of a dialogue, the same with its last line ended, what the wire brings, and how it ends with what was written.
+struct Opened {
+    text: &'static [u8],
+    front: &'static [u8],
+    input: &'static [u8],
+    end: DialogueEnd,
+    written: &'static [u8],
+}
+
+const OPENED: [Opened; 5] = [
+    Opened {
+        text: b"ab\n",
+        front: b"ab\n",
+        input: b"cd",
+        end: DialogueEnd::Done,
+        written: b"ab\ncd?",
+    },
+    Opened {
+        text: b"a\nb",
+        front: b"a\nb\n",
+        input: b"cd",
+        end: DialogueEnd::Done,
+        written: b"a\nb\ncd?",
+    },
+    Opened {
+        text: b"ab",
+        front: b"ab\n",
+        input: b"c.d",
+        end: DialogueEnd::Ended,
+        written: b"ab\nc",
+    },
+    Opened {
+        text: b"a.b",
+        front: b"a.b\n",
+        input: b"cd",
+        end: DialogueEnd::Ended,
+        written: b"a",
+    },
+    Opened {
+        text: b"",
+        front: b"",
+        input: b"cd",
+        end: DialogueEnd::Done,
+        written: b"cd?",
+    },
+];
+
+/// Holds a dialogue behind a text, which the source gives two bytes at a time.
+fn check_opened<R: Abort + AllocGlobal>(rt: &R, opened: &Opened) {
+    let text = Vec::from_slice(rt.alloc(), opened.text).expect(rt, "no memory");
+    let mut source = MemSource::new(text, 2, Vec::new(rt.alloc()));
+    let mut echo = Echo { stopped: false };
+    let opening = open_with(rt.alloc(), &mut source, &mut echo).expect(rt, "no text");
+    let mut wire = wire_of(rt.alloc(), opened.input, cut_to(1)).expect(rt, "no memory");
+    let end = answer_opened(rt.alloc(), &mut wire, &mut echo, &opening);
+    let written = written(rt, opened.front, wire.events()).expect(rt, "no memory");
+    assert_eq!(rt; (end, written.as_slice()), (opened.end, opened.written));
+}
+
+#[test]
+fn a_text_in_front_is_answered_first(rt: HostRuntime) {
+    for opened in &OPENED {
+        check_opened(&rt, opened);
     }
 }

@@ -10,11 +10,16 @@ use Rattle.std.proofs.lemmas.List.Sorted.{All-permutation, IsPermutation-map, li
 use Rattle.kc_lists.specs.Lists.{Distinct, member}
 use Rattle.kc_lists.proofs.Counting.{Distinct-permutation, filter-member, member-filter, pairs_from_Distinct}
 use Rattle.kc_lists.proofs.Members.{member-cases}
-use Rattle.kc_changes.specs.Changed.{AreIdChanges, IsIdChange, change_lines, crossing_line, crossing_lines, ids_in, is_changed, number_line}
-use Rattle.kc_changes.specs.Telling.{AreInOrder, HasBothNumbers, crossing_text, number_text}
+use Rattle.kc_changes.specs.Changed.{AreIdChanges, IsIdChange, change_facts, changed_ids, crossing_facts, crossing_of, ids_in, is_changed}
+use Rattle.kc_changes.specs.Telling.{AreInOrder, HasBothNumbers, change_text, crossing_text}
 use Rattle.kc_changes.specs.declared.id_change.IdChange.{IdChange}
 use Rattle.kc_changes.specs.declared.show.Show.TheVariants.{Changes}
 use Rattle.kc_changes.proofs.Ascending.{ascending-is}
+use Rattle.kc_reply.specs.Facts.{Fact}
+use Rattle.kc_reply.specs.Facts as fact
+use Rattle.kc_reply.specs.Texts.{fact_text, facts_text}
+use Rattle.kc_reply.specs.declared.reply_format.ReplyFormat.{ReplyFormat}
+use Rattle.kc_reply.proofs.Texts.{texts-of_each, texts-of_map}
 
 -- what holds of the id of each change holds of each id of changes
 from-ids : (P : ℕ → Type 0) (cs : List IdChange) (q : ℕ) → All (λ (c : IdChange). P c.id) cs → member q (ids_in cs) ≡ true → P q
@@ -70,13 +75,17 @@ module _ (before after : ℕ → Option ℕ) where
       (lines-of line cs (All-tail (HasBothNumbers before after) c cs each))
 
   -- so are those of the numbers
-  pub number-lines : (ids : List ℕ) (cs : List IdChange) → AreInOrder before after ids cs
-      → flat_map number_text cs ≡ change_lines Changes before after ids
-  number-lines ids cs in_order =
-      lines-of number_line cs in_order.each ∙ ap (flat_map (λ id. number_line id (before id) (after id))) in_order.are
+  pub change-lines : (format : ReplyFormat) (ids : List ℕ) (cs : List IdChange) → AreInOrder before after ids cs
+      → flat_map (change_text format) cs ≡ facts_text format (change_facts Changes before after ids)
+  change-lines format ids cs in_order =
+      let told : ℕ → Fact = λ id. fact.Change id (before id) (after id) in
+      lines-of (λ id old new. fact_text format (fact.Change id old new)) cs in_order.each
+      ∙ ap (flat_map (λ id. fact_text format (told id))) in_order.are ∙ sym (texts-of_map format told (changed_ids before after ids))
 
   -- and of those that came into a core or left it
-  pub crossings : (k : ℕ) (ids : List ℕ) (cs : List IdChange) → AreInOrder before after ids cs
-      → flat_map (crossing_text k) cs ≡ crossing_lines (Some k) before after ids
-  crossings k ids cs in_order =
-      lines-of (crossing_line k) cs in_order.each ∙ ap (flat_map (λ id. crossing_line k id (before id) (after id))) in_order.are
+  pub crossing-lines : (format : ReplyFormat) (k : ℕ) (ids : List ℕ) (cs : List IdChange) → AreInOrder before after ids cs
+      → flat_map (crossing_text format k) cs ≡ facts_text format (crossing_facts (Some k) before after ids)
+  crossing-lines format k ids cs in_order =
+      let told : ℕ → List Fact = λ id. crossing_of k id (before id) (after id) in
+      lines-of (λ id old new. facts_text format (crossing_of k id old new)) cs in_order.each
+      ∙ ap (flat_map (λ id. facts_text format (told id))) in_order.are ∙ sym (texts-of_each format told (changed_ids before after ids))

@@ -2,7 +2,7 @@
 //!
 //! An id has a core number before a batch and after it, or none before where it is new. [`IdChange`] says both of an id of which they are
 //! not the same, and [`put_changes`] puts the lines about such ids in ascending order: their numbers, and who came into a core or left it.
-//! `specs/Changed` says which ids these are and what their lines are, of any numbers before and after.
+//! `specs/Changed` says which ids these are and what is told of them, of any numbers before and after. The lines are those of `kc_reply`.
 #![tactic(auto)]
 
 mod id_change;

@@ -1,13 +1,15 @@
 //! The lines about the ids whose core numbers a batch changes.
 ghost use Rattle.std.specs.Prelude.{◌≡◌, ◌++◌, ℕ, List, Option, OnOk};
 ghost use Rattle.std.specs.Io.{StartsWith};
-ghost use Rattle.kc_changes.specs.Changed.{AreIdChanges, change_lines, crossing_lines, lines_behind};
+ghost use Rattle.kc_changes.specs.Changed.{AreIdChanges, change_facts, crossing_facts, facts_behind};
 ghost use Rattle.kc_changes.specs.Telling.{AreInOrder};
+ghost use Rattle.kc_reply.specs.Texts.{facts_text};
 
 use crate::NoMemory;
 use crate::id_change::IdChange;
-use crate::pieces::{put_crossing_lines, put_number_lines};
+use crate::pieces::{put_crossings, put_each_change};
 use crate::show::Show;
+use kc_reply::ReplyFormat;
 
 /// Brings changes into the order of their ids.
 fn sort_by_id(changes: &mut [IdChange])
@@ -17,26 +19,36 @@ fn sort_by_id(changes: &mut [IdChange])
 }
 
 /// Puts what is shown of changes that stand in order.
-fn put_shown(out: &mut Vec<u8>, show: Show, changes: &[IdChange]) -> Result<(), NoMemory>
+fn put_shown(
+    out: &mut Vec<u8>,
+    format: ReplyFormat,
+    show: Show,
+    changes: &[IdChange],
+) -> Result<(), NoMemory>
     ensures ok { OnOk result ((before after : ℕ → Option ℕ) (ids : List ℕ) → AreInOrder before after ids changes.now
-        → out.new.items ≡ out.old.items ++ change_lines show before after ids) }
+        → out.new.items ≡ out.old.items ++ facts_text format (change_facts show before after ids)) }
     ensures kept { StartsWith out.new.items out.old.items }
 {
     match show {
         Show::Summary => Ok(()),
-        Show::Changes => put_number_lines(out, changes),
+        Show::Changes => put_each_change(out, format, changes),
     }
 }
 
 /// Puts who came into the core of a level or left it, where one is asked for, of changes that stand in order.
-fn put_entered(out: &mut Vec<u8>, enter: Option<u32>, changes: &[IdChange]) -> Result<(), NoMemory>
+fn put_entered(
+    out: &mut Vec<u8>,
+    format: ReplyFormat,
+    enter: Option<u32>,
+    changes: &[IdChange],
+) -> Result<(), NoMemory>
     ensures ok { OnOk result ((before after : ℕ → Option ℕ) (ids : List ℕ) → AreInOrder before after ids changes.now
-        → out.new.items ≡ out.old.items ++ crossing_lines enter before after ids) }
+        → out.new.items ≡ out.old.items ++ facts_text format (crossing_facts enter before after ids)) }
     ensures kept { StartsWith out.new.items out.old.items }
 {
     match enter {
         None => Ok(()),
-        Some(level) => put_crossing_lines(out, level, changes),
+        Some(level) => put_crossings(out, format, level, changes),
     }
 }
 
@@ -48,25 +60,27 @@ fn put_entered(out: &mut Vec<u8>, enter: Option<u32>, changes: &[IdChange]) -> R
 ///
 /// ```rust
 /// use kc_changes::{IdChange, Show, put_changes};
+/// use kc_reply::ReplyFormat;
 ///
 /// let mut changes = vec![in alloc;
 ///     IdChange { id: 9, before: None, now: 1 },
 ///     IdChange { id: 4, before: Some(1), now: 2 },
 /// ]?;
 /// let mut out = Vec::new(alloc);
-/// put_changes(&mut out, Show::Changes, Some(2), &mut changes)?; // "4 1 2\n9 - 1\nenter 4\n"
+/// put_changes(&mut out, ReplyFormat::Words, Show::Changes, Some(2), &mut changes)?; // "4 1 2\n9 - 1\nenter 4\n"
 /// ```
 pub fn put_changes(
     out: &mut Vec<u8>,
+    format: ReplyFormat,
     show: Show,
     enter: Option<u32>,
     changes: &mut [IdChange],
 ) -> Result<(), NoMemory>
     ensures ok { OnOk result ((before after : ℕ → Option ℕ) (ids : List ℕ) → AreIdChanges before after ids changes.old
-        → out.new.items ≡ out.old.items ++ lines_behind show enter before after ids) }
+        → out.new.items ≡ out.old.items ++ facts_text format (facts_behind show enter before after ids)) }
     ensures kept { StartsWith out.new.items out.old.items }
 {
     sort_by_id(changes);
-    put_shown(out, show, changes)?;
-    put_entered(out, enter, changes)
+    put_shown(out, format, show, changes)?;
+    put_entered(out, format, enter, changes)
 }

@@ -14,10 +14,9 @@ use Rattle.kc_cores.specs.Endings.{HasNoVerdict, HasSaid, NoClaimsAt, NoFileGrap
 use Rattle.kc_cores.specs.Inputs.{known_bytes}
 use Rattle.kc_cores.specs.Sentences.{no_memory_line, write_fault_line}
 use Rattle.kc_cores.specs.Verdicts.{no_line, yes_line}
-use Rattle.kc_watch.specs.declared.options.WatchOptions.{WatchOptions}
 use Rattle.kc_cores.specs.WatchEnded.{WatchEnded}
 use Rattle.kc_cores.specs.StreamChecked.{StreamChecked}
-use Rattle.kc_cores.specs.Wishes.{Asks, Checks, ChecksStream, GraphText, Query, Watches, Wish}
+use Rattle.kc_cores.specs.Wishes.{Asks, Checks, ChecksStream, GraphText, Query, StreamQuery, Watches, Wish}
 use Rattle.kc_cores.specs.declared.CoresStatus.{CoresStatus}
 use Rattle.kc_cores.specs.declared.CoresStatus.TheVariants as status
 use Rattle.kc_cores.specs.declared.ending.Ending.{Ending}
@@ -159,7 +158,7 @@ module _ {I C O : Type 0} (source : sources.Ghosts I) (behind : I → List ℕ �
     EndsAsAsked-lines wish query end line i i' c c' o o' l l' is h same stays = record {
       check = λ n f e. absurd (cc);
       stream = λ n f e. absurd (cc);
-      watch = λ options e. absurd (cc);
+      watch = λ query e. absurd (cc);
       other = λ _ _ _. (subst (λ (w : Wish). CoresEnded source behind out gone w end line i i' o o') (sym is) h, same, stays);
     }
 
@@ -176,7 +175,7 @@ module _ {I C O : Type 0} (source : sources.Ghosts I) (behind : I → List ℕ �
             stays,
           );
       stream = λ n f e. absurd (cc);
-      watch = λ options e. absurd (cc);
+      watch = λ query e. absurd (cc);
       other = λ none _ _. absurd (none name graph is);
     }
 
@@ -193,21 +192,21 @@ module _ {I C O : Type 0} (source : sources.Ghosts I) (behind : I → List ℕ �
                 (subst (λ (x : List (List ℕ)). StreamChecked source behind kept beside out name x end line i i' c c' o o') q h),
             stays,
           );
-      watch = λ options e. absurd (cc);
+      watch = λ query e. absurd (cc);
       other = λ _ none _. absurd (none name files is);
     }
 
     -- a run that answers a stream has ended as it should
-    pub EndsAsAsked-watch : (wish : Wish) (options : WatchOptions) (end : CoresStatus) (line : List ℕ) (i i' : I) (c c' : C) (o o' : O) (l l' : L)
-        → wish ≡ Watches options → WatchEnded wire options end line l l' → i' ≡ i → c' ≡ c → o' ≡ o
+    pub EndsAsAsked-watch : (wish : Wish) (query : StreamQuery) (end : CoresStatus) (line : List ℕ) (i i' : I) (c c' : C) (o o' : O) (l l' : L)
+        → wish ≡ Watches query → WatchEnded source behind wire query end line i i' l l' → c' ≡ c → o' ≡ o
         → EndsAsAsked source behind kept beside out gone wire wish end line i i' c c' o o' l l'
-    EndsAsAsked-watch wish options end line i i' c c' o o' l l' is h one two three = record {
+    EndsAsAsked-watch wish query end line i i' c c' o o' l l' is h one two = record {
       check = λ n f e. absurd (cc);
       stream = λ n f e. absurd (cc);
       watch = λ asked e.
-          let p : options ≡ asked = cc in
-          (subst (λ (x : WatchOptions). WatchEnded wire x end line l l') p h, one, two, three);
-      other = λ _ _ none. absurd (none options is);
+          let p : query ≡ asked = cc in
+          (subst (λ (x : StreamQuery). WatchEnded source behind wire x end line i i' l l') p h, one, two);
+      other = λ _ _ none. absurd (none query is);
     }
 
     -- a run that is a reply to its words has ended as it should
@@ -218,7 +217,7 @@ module _ {I C O : Type 0} (source : sources.Ghosts I) (behind : I → List ℕ �
     EndsAsAsked-reply wish r end line i i' c c' o o' l l' replies h same stays memory = record {
       check = λ name graph e. (go r name graph (subst (RepliesTo r) e replies) memory, stays);
       stream = λ name files e. (sweep r name files (subst (RepliesTo r) e replies) memory, stays);
-      watch = λ options e. stream r options (subst (RepliesTo r) e replies) memory;
+      watch = λ query e. stream r query (subst (RepliesTo r) e replies) memory;
       other = λ _ _ _. (h, same, stays);
     }
       where
@@ -240,11 +239,11 @@ module _ {I C O : Type 0} (source : sources.Ghosts I) (behind : I → List ℕ �
             let (is, told, one, three) = memory refl in
             StreamChecked-nothing source behind kept beside out name files end line i i' c c' o o' is told one same three
 
-        stream : (r : Reply) (options : WatchOptions) → RepliesTo r (Watches options)
+        stream : (r : Reply) (query : StreamQuery) → RepliesTo r (Watches query)
             → (r ≡ reply.NoMemory → (end ≡ status.NoMemory) × (line ≡ no_memory_line) × (i' ≡ i) × (o' ≡ o))
-            → WatchEnded wire options end line l l' × (i' ≡ i) × (c' ≡ c) × (o' ≡ o)
-        stream (reply.Asked text) options replies memory = absurd replies
-        stream (reply.Mistake text) options replies memory = absurd replies
-        stream reply.NoMemory options replies memory =
+            → WatchEnded source behind wire query end line i i' l l' × (c' ≡ c) × (o' ≡ o)
+        stream (reply.Asked text) query replies memory = absurd replies
+        stream (reply.Mistake text) query replies memory = absurd replies
+        stream reply.NoMemory query replies memory =
             let (is, told, one, three) = memory refl in
-            (WatchEnded-nothing wire options end line l l' is told stays, one, same, three)
+            (WatchEnded-nothing source behind wire query end line i i' l l' is told one stays, same, three)

@@ -1,16 +1,16 @@
 -- A run whose lines become a file ends as it should, and so does any run.
-use Rattle.std.proofs.Common.{◌≡◌, ◌<◌, ◌∙◌, ◌++◌, ℕ, Bool, List, Option, None, Some, ap, arith, refl, subst, sym}
-use Rattle.std.specs.Io.KnownBytes.{Appends, IsAtEnd}
+use Rattle.std.proofs.Common.{◌≡◌, ◌∙◌, ℕ, Bool, List, Option, ap, refl, subst, sym}
+use Rattle.std.specs.Io.KnownBytes.{IsAtEnd}
 use Rattle.kc_io.specs.Causes.{Rose}
 use Rattle.kc_io.specs.declared.sink.Sink as sinks
 use Rattle.kc_io.specs.declared.source.Source as sources
 use Rattle.kc_wire.specs.declared.wire.Wire as wires
-use Rattle.kc_files.specs.Folders.{Held, IsBegun, TellsNothing, held_as}
+use Rattle.kc_files.specs.Folders.{AllStay, HasBytes, Held, OthersStay}
 use Rattle.kc_cores.specs.Asked.{EndsAsAsked}
 use Rattle.kc_cores.specs.CoresEnded.{IsAnswerTo, done_line}
 use Rattle.kc_cores.specs.Endings.{NoFileGraphAt, RepliesTo}
 use Rattle.kc_cores.specs.Inputs.{known_bytes}
-use Rattle.kc_cores.specs.Saved.{AllStay, HasBytes, IsUnsavedLine, OthersStay, RunEnded, SaveEnded, SavedAt}
+use Rattle.kc_cores.specs.Saved.{IsUnsavedLine, RunEnded, SaveEnded, SavedAt}
 use Rattle.kc_cores.specs.Sentences.{no_memory_line}
 use Rattle.kc_cores.specs.Wishes.{Asks, Query, Saves, Wish}
 use Rattle.kc_cores.specs.declared.CoresStatus.{CoresStatus}
@@ -18,22 +18,10 @@ use Rattle.kc_cores.specs.declared.CoresStatus.TheVariants as status
 use Rattle.kc_cores.specs.declared.words.Reply.{Reply}
 use Rattle.kc_cores.specs.declared.words.Reply.TheVariants as reply
 
--- a count that has risen is more than none
-pub rose-above : (before after : ℕ) → Rose before after → 0 < after
-rose-above before after rose = grind (arith, rose)
-
 -- words that ask for something else ask for no file
 pub not_saved : (wish other : Wish) → wish ≡ other → ((name : List ℕ) (query : Query) → other ≡ Saves name query → ⊥) → (name : List ℕ) (query : Query)
     → wish ≡ Saves name query → ⊥
 not_saved wish other is none name query e = none name query (sym is ∙ e)
-
--- a file that has the bytes of a part has the text that the part took since it was begun
-pub HasBytes-part : (holds : List ℕ → Held) (held : Held) (before after : Option (List ℕ)) (text : List ℕ) → held ≡ held_as after → IsBegun before holds
-    → (TellsNothing holds → held ≡ None) → Appends before after text → HasBytes held text
-HasBytes-part holds held None after text is begun untold took = subst (λ (h : Held). HasBytes h text) (sym (untold begun)) tt
-HasBytes-part holds held (Some none) None text is begun untold took = absurd took
-HasBytes-part holds held (Some none) (Some bytes) text is begun untold took =
-    subst (λ (h : Held). HasBytes h text) (sym is) (ap (λ (b : List ℕ). Some b) (took ∙ ap (λ (b : List ℕ). b ++ text) begun))
 
 module _ {I P : Type 0} (source : sources.Ghosts I) (behind : I → List ℕ → Option (List ℕ)) (holds : P → List ℕ → Held) (failed : P → ℕ) where
   -- there is no graph

@@ -3,17 +3,16 @@ use Rattle.std.specs.Prelude.{◌≡◌, ℕ, Bool, List, Option}
 use Rattle.kc_io.specs.declared.sink.Sink as sinks
 use Rattle.kc_io.specs.declared.source.Source as sources
 use Rattle.kc_wire.specs.declared.wire.Wire as wires
-use Rattle.kc_watch.specs.declared.options.WatchOptions.{WatchOptions}
 use Rattle.kc_cores.specs.CheckEnded.{CheckEnded}
 use Rattle.kc_cores.specs.CoresEnded.{CoresEnded}
 use Rattle.kc_cores.specs.StreamChecked.{StreamChecked}
 use Rattle.kc_cores.specs.WatchEnded.{WatchEnded}
-use Rattle.kc_cores.specs.Wishes.{Checks, ChecksStream, GraphText, Watches, Wish}
+use Rattle.kc_cores.specs.Wishes.{Checks, ChecksStream, GraphText, StreamQuery, Watches, Wish}
 use Rattle.kc_cores.specs.declared.CoresStatus.{CoresStatus}
 
 -- A run for what the words ask for has ended with this status, and `told` is the line about it. Where they ask for a check or for the answer
 -- to a stream it ends as that, and else as `CoresEnded` says. Only a check turns to the certificate, and only a stream to the wire `l`; a
--- stream is read and answered on the wire alone.
+-- stream is read and answered on the wire alone, and the input has the file in front of it.
 pub record EndsAsAsked {I C O L : Type 0} (source : sources.Ghosts I) (behind : I → List ℕ → Option (List ℕ)) (kept : sources.Ghosts C)
     (beside : C → List ℕ → Option (List ℕ)) (out : sinks.Ghosts O) (gone : O → Bool) (wire : wires.Ghosts L) (wish : Wish) (end : CoresStatus)
     (told : List ℕ) (i i' : I) (c c' : C) (o o' : O) (l l' : L) : Type 0 where
@@ -21,7 +20,7 @@ pub record EndsAsAsked {I C O L : Type 0} (source : sources.Ghosts I) (behind : 
       → CheckEnded source behind kept beside out name graph end told i i' c c' o o' × (l' ≡ l)
   pub stream : (name : List ℕ) (files : List (List ℕ)) → wish ≡ ChecksStream name files
       → StreamChecked source behind kept beside out name files end told i i' c c' o o' × (l' ≡ l)
-  pub watch : (options : WatchOptions) → wish ≡ Watches options → WatchEnded wire options end told l l' × (i' ≡ i) × (c' ≡ c) × (o' ≡ o)
+  pub watch : (query : StreamQuery) → wish ≡ Watches query → WatchEnded source behind wire query end told i i' l l' × (c' ≡ c) × (o' ≡ o)
   pub other : ((name : List ℕ) (graph : GraphText) → wish ≡ Checks name graph → ⊥)
-      → ((name : List ℕ) (files : List (List ℕ)) → wish ≡ ChecksStream name files → ⊥) → ((options : WatchOptions) → wish ≡ Watches options → ⊥)
+      → ((name : List ℕ) (files : List (List ℕ)) → wish ≡ ChecksStream name files → ⊥) → ((query : StreamQuery) → wish ≡ Watches query → ⊥)
       → CoresEnded source behind out gone wish end told i i' o o' × (c' ≡ c) × (l' ≡ l)

@@ -23,7 +23,7 @@ given_bytes left behind (Asks query) i = known_bytes left behind query.graph.fil
 given_bytes left behind (Saves name query) i = None
 given_bytes left behind (Checks name graph) i = None
 given_bytes left behind (ChecksStream name files) i = None
-given_bytes left behind (Watches options) i = None
+given_bytes left behind (Watches stream) i = None
 given_bytes left behind (Replies kinds) i = None
 
 -- the lines and the summary of what was read, which is all of the input where it is known
@@ -34,7 +34,7 @@ IsAnswerTo (Asks query) known text summary =
 IsAnswerTo (Saves name query) known text summary = ⊥
 IsAnswerTo (Checks name graph) known text summary = ⊥
 IsAnswerTo (ChecksStream name files) known text summary = ⊥
-IsAnswerTo (Watches options) known text summary = ⊥
+IsAnswerTo (Watches stream) known text summary = ⊥
 IsAnswerTo (Replies kinds) known text summary = ⊥
 
 -- all of a text was taken, with this fact about it
@@ -51,7 +51,7 @@ IsOutputFor (Asks query) known text = (summary : List ℕ) × IsAnswerTo (Asks q
 IsOutputFor (Saves name query) known text = ⊥
 IsOutputFor (Checks name graph) known text = ⊥
 IsOutputFor (ChecksStream name files) known text = ⊥
-IsOutputFor (Watches options) known text = ⊥
+IsOutputFor (Watches stream) known text = ⊥
 IsOutputFor (Replies kinds) known text = MayReply true (Replies kinds)
 
 -- what the sink of the lines took at each status

@@ -17,7 +17,9 @@ use Rattle.kc_cores.specs.CoresEnded.{IsUnopenedLine}
 use Rattle.kc_cores.specs.Sentences.{GraphRefusal, no_memory_line, read_fault_line, refused_line, write_fault_line}
 use Rattle.kc_cores.specs.StreamChecked.{IsPieceOf, IsStreamText, faulty_line, files_for, is_several}
 use Rattle.kc_cores.specs.Verdicts.{claim_refused_line, fault_line, no_line}
-use Rattle.kc_cores.specs.Wishes.{Asks, Checks, ChecksStream, GraphText, MayReply, Query, Saves, Watches, Wish, is_shown}
+use Rattle.kc_cores.specs.WatchEnded.{NoFrontAt}
+use Rattle.kc_cores.specs.Wishes.{Asks, BegunFrom, Checks, ChecksStream, GraphText, MayReply, Query, Saves, StreamQuery}
+use Rattle.kc_cores.specs.Wishes.{StreamStart, Unbegun, Watches, Wish, is_shown}
 use Rattle.kc_cores.specs.declared.CoresStatus.{CoresStatus}
 use Rattle.kc_cores.specs.declared.CoresStatus.TheVariants as status
 use Rattle.kc_cores.specs.declared.ending.Ending.{Ending}
@@ -26,6 +28,9 @@ use Rattle.kc_cores.specs.declared.message.Message.{Message}
 use Rattle.kc_cores.specs.declared.message.Message.TheVariants.{Bytes, Fixed, Made}
 use Rattle.kc_cores.specs.declared.request.NamedText.{NamedText}
 use Rattle.kc_cores.specs.declared.request.Request.{Request}
+use Rattle.kc_cores.specs.declared.request.StreamStart.{StreamStart as RequestedStart}
+use Rattle.kc_cores.specs.declared.request.StreamStart.TheVariants as start
+use Rattle.kc_cores.specs.declared.request.WatchRequest.{WatchRequest}
 use Rattle.kc_cores.specs.declared.request.Wanted.{Wanted}
 use Rattle.kc_cores.specs.declared.request.Wanted.TheVariants as wanted
 use Rattle.kc_cores.specs.declared.words.Reply.{Reply}
@@ -204,10 +209,23 @@ text_of named = record { file = option_map (λ name. name.now) named.file; diale
 abbrev pub query_of : Request → Query
 query_of request = record { task = request.task; graph = text_of request.graph; format = request.format; quiet = request.quiet }
 
+-- what stands in front of a stream, by a request
+abbrev pub start_of : RequestedStart → StreamStart
+start_of start.Nothing = Unbegun
+start_of (start.From name) = BegunFrom name.now
+
+-- what a request to answer a stream asks for
+abbrev pub stream_of_request : WatchRequest → StreamQuery
+stream_of_request request = record { options = request.options; start = start_of request.start }
+
+-- the run ends since the file in front of a stream is not read, or there is no memory
+abbrev pub HasNoFront : Ending → (List ℕ → Option (List ℕ)) → StreamStart → ℕ → ℕ → Type 0
+HasNoFront ending known start before after = NoFrontAt ending.status (line_of ending) known start before after
+
 -- the request is what words ask for
 abbrev pub IsRequestFor : Wanted → Wish → Type 0
 IsRequestFor (wanted.Lines request) wish = wish ≡ Asks (query_of request)
 IsRequestFor (wanted.Save request) wish = wish ≡ Saves request.file.now (query_of request.lines)
 IsRequestFor (wanted.Check request) wish = wish ≡ Checks request.certificate.now (text_of request.graph)
 IsRequestFor (wanted.CheckStream request) wish = wish ≡ ChecksStream request.certificate.now (map (λ name. name.now) request.files.items)
-IsRequestFor (wanted.Watch options) wish = wish ≡ Watches options
+IsRequestFor (wanted.Watch request) wish = wish ≡ Watches (stream_of_request request)

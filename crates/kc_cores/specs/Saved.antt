@@ -1,12 +1,12 @@
 -- How a run ends whose lines become a file, and how any run ends.
-use Rattle.std.specs.Prelude.{◌≡◌, ◌⊎◌, ◌++◌, ℕ, Bool, List, [], ◌∷◌, Option, Some, IfSome, codes, if◌then◌else◌}
+use Rattle.std.specs.Prelude.{◌≡◌, ◌⊎◌, ◌++◌, ℕ, Bool, List, [], ◌∷◌, Option, codes, if◌then◌else◌}
 use Rattle.std.specs.Io.KnownBytes.{IsAtEnd}
 use Rattle.kc_io.specs.Causes.{Rose}
 use Rattle.kc_io.specs.declared.sink.Sink as sinks
 use Rattle.kc_io.specs.declared.source.Source as sources
 use Rattle.kc_wire.specs.declared.wire.Wire as wires
 use Rattle.kc_files.specs.Faults.{fault_sentence}
-use Rattle.kc_files.specs.Folders.{Held}
+use Rattle.kc_files.specs.Folders.{AllStay, HasBytes, Held, OthersStay}
 use Rattle.kc_files.specs.declared.fault.FolderFault.{FolderFault}
 use Rattle.kc_cores.specs.Asked.{EndsAsAsked}
 use Rattle.kc_cores.specs.CoresEnded.{IsAnswerTo, done_line}
@@ -28,18 +28,6 @@ unsaved_line name fault is_left = codes "cores: " ++ (name ++ (codes ": " ++ (fa
 -- the line about a file that was not written, which lacks the name where there is no memory for it
 abbrev pub IsUnsavedLine : List ℕ → List ℕ → Type 0
 IsUnsavedLine name line = ((fault : FolderFault) × (is_left : Bool) × (line ≡ unsaved_line name fault is_left)) ⊎ (line ≡ write_fault_line)
-
--- the file has these bytes, where that is told
-abbrev pub HasBytes : Held → List ℕ → Type 0
-HasBytes held bytes = IfSome held (λ file. file ≡ Some bytes)
-
--- all files are as they were
-abbrev pub AllStay : {P : Type 0} → (P → List ℕ → Held) → P → P → Type 0
-AllStay holds p p' = (file : List ℕ) → holds p' file ≡ holds p file
-
--- all other files are as they were
-abbrev pub OthersStay : {P : Type 0} → (P → List ℕ → Held) → List ℕ → P → P → Type 0
-OthersStay holds name p p' = (file : List ℕ) → (file ≡ name → ⊥) → holds p' file ≡ holds p file
 
 -- Where the run is done, the file of this name has just the lines that are asked for. Where it was not written, all files are as they were, and
 -- there were lines to write. At each other status there is no graph, and the folder is as it was.

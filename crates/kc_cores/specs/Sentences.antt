@@ -1,5 +1,5 @@
 -- The lines that a run writes about itself.
-use Rattle.std.specs.Prelude.{◌==◌, ℕ, zero, suc, List, [], ◌∷◌, ◌++◌, Option, None, Some, codes, if◌then◌else◌}
+use Rattle.std.specs.Prelude.{◌==◌, ◌-◌, ℕ, zero, suc, List, [], ◌∷◌, ◌++◌, Option, None, Some, codes, nat_lt, if◌then◌else◌}
 use Rattle.std.specs.Option.{option_or}
 use Rattle.std.specs.Fmt.{decimal}
 use Rattle.kc_text.specs.declared.kind.Kind.{Kind}
@@ -162,9 +162,16 @@ stream_sentence UpdateOutsideBatch = codes "a change or a question stands before
 stream_sentence EdgeLineInBatch = codes "an edge stands after a line batch; begin the line with + or -"
 stream_sentence kind = sentence_of kind
 
--- `cores: line 12: SENTENCE`
-abbrev pub stream_refused_line : Refusal → List ℕ
-stream_refused_line refusal = codes "cores: " ++ (at_line refusal.line ++ (codes ": " ++ (stream_sentence refusal.kind ++ 10 ∷ [])))
+-- `cores: line 12: SENTENCE`, or `cores: FILE: line 12: SENTENCE` where the line is one of a file
+abbrev pub stream_refused_line : Option (List ℕ) → Refusal → List ℕ
+stream_refused_line file refusal =
+    codes "cores: " ++ (in_file file ++ (at_line refusal.line ++ (codes ": " ++ (stream_sentence refusal.kind ++ 10 ∷ []))))
+
+-- The line about a refused line of a stream behind so many lines of a file, if there is one. It has its number in the file where it is one of these,
+-- and else its number in the stream.
+abbrev pub refused_behind : Option (List ℕ) → ℕ → Refusal → List ℕ
+refused_behind file lines refusal =
+    if nat_lt lines refusal.line then stream_refused_line None (record refusal { line = refusal.line - lines }) else stream_refused_line file refusal
 
 -- `cores: 3 batches were refused`
 abbrev pub refused_batches_line : ℕ → List ℕ

@@ -30,11 +30,11 @@ fault_line name (Missing id) =
     codes "cores: " ++ (name ++ (codes ": id " ++ (decimal id ++ codes " of the graph has no line; add it or write the certificate anew with cores order\n")))
 fault_line name (ManyLater claim count) =
     at_claim name claim
-    (codes " is told core number " ++ (decimal claim.number ++ (codes ", but " ++ (decimal count
-    ++ codes " neighbours stand behind it; cores order writes a certificate\n"))))
+    (codes " is told core number " ++ (decimal claim.number ++ (codes ", but has more neighbours after it: " ++ (decimal count
+    ++ codes "; write it by cores order\n"))))
 fault_line name (FewSupporters claim count) =
     at_claim name claim
-    (codes " is told core number " ++ (decimal claim.number ++ (codes ", but only " ++ (decimal count ++ codes " neighbours are told as much or more\n"))))
+    (codes " is told core number " ++ (decimal claim.number ++ (codes ", but has fewer neighbours told as much or more: " ++ (decimal count ++ codes "\n"))))
 
 -- what was found wrong with a line of a certificate, and how it is mended
 abbrev pub claim_sentence : Kind → List ℕ

@@ -27,6 +27,8 @@ use Rattle.kc_changes.specs.declared.show.Show.{Show}
 use Rattle.kc_changes.specs.declared.show.Show.TheVariants.{Changes, Summary}
 use Rattle.kc_stream.specs.declared.bad_lines.BadLines.{BadLines as StreamBadLines}
 use Rattle.kc_stream.specs.declared.bad_lines.BadLines.TheVariants as on_bad
+use Rattle.kc_reply.specs.declared.reply_format.ReplyFormat.{ReplyFormat}
+use Rattle.kc_reply.specs.declared.reply_format.ReplyFormat.TheVariants as written
 use Rattle.kc_watch.specs.declared.options.WatchOptions.{WatchOptions}
 use Rattle.kc_lines.specs.declared.format.Format.{Format}
 use Rattle.kc_lines.specs.declared.format.Format.TheVariants.{Json, Tabs}
@@ -141,9 +143,18 @@ enter_option = record (value_option (codes "enter")) { parser = Some (Signed (po
 abbrev pub stream_command : App
 stream_command = new_app (codes "watch")
 
+-- the command with the options about what a stream is answered
+abbrev pub with_answers : App → App
+with_answers app =
+    with_rule (with_rule (with_rule (with_rule app (value_option (codes "show"))) enter_option) (value_option (codes "bad-lines"))) format_option
+
+-- the command with the options about what stands in front of a stream
+abbrev pub with_start : App → App
+with_start app = with_rule app (value_option (codes "from"))
+
 -- the command that answers a stream
 abbrev pub watch_command : App
-watch_command = with_rule (with_rule (with_rule stream_command (value_option (codes "show"))) enter_option) (value_option (codes "bad-lines"))
+watch_command = with_start (with_answers stream_command)
 
 -- the command that reads the words, with a command of its own for each task, for the check and for a stream
 abbrev pub cores_command : App
@@ -161,6 +172,16 @@ pub record Query : Type 0 where
   pub format : Format
   pub quiet : Bool
 
+-- What stands in front of a stream: nothing, or the text of the file of this name.
+pub data StreamStart : Type 0 where
+  Unbegun : StreamStart
+  BegunFrom : Text → StreamStart
+
+-- The answer to a stream: what it is answered, and what stands in front of it.
+pub record StreamQuery : Type 0 where
+  pub options : WatchOptions
+  pub start : StreamStart
+
 -- What words ask for: a task for a graph; or the same, whose lines become the file of this name; or the check of a certificate of this name
 -- for the graph of a text; or the same for an ascending stream of files, one after another, or of standard input; or the answer to a stream. Or
 -- they ask for help or the version, or are not right: then there is a reply of one of these kinds, as those of `clap`.
@@ -169,7 +190,7 @@ pub data Wish : Type 0 where
   Saves : Text → Query → Wish
   Checks : Text → GraphText → Wish
   ChecksStream : Text → List Text → Wish
-  Watches : WatchOptions → Wish
+  Watches : StreamQuery → Wish
   Replies : Kinds → Wish
 
 -- whether a text has digits alone, at least one, and its number is one of 32 bits
@@ -395,25 +416,49 @@ abbrev pub stream_bad_lines_in : Option Text → Option StreamBadLines
 stream_bad_lines_in None = Some on_bad.Stop
 stream_bad_lines_in (Some text) = stream_bad_lines_of text
 
+-- how the lines of a reply are written, by this word
+abbrev pub reply_format_of : Text → Option ReplyFormat
+reply_format_of text =
+    if bytes_eq text (codes "text") then Some written.Words else if bytes_eq text (codes "json") then Some written.Json else None
+
+-- how the lines of a reply are written: in words where nothing else is said
+abbrev pub reply_format_in : Option Text → Option ReplyFormat
+reply_format_in None = Some written.Words
+reply_format_in (Some text) = reply_format_of text
+
 -- what a stream is to be answered, where all parts are right
-abbrev pub options_of : Option Show → Option (Option ℕ) → Option StreamBadLines → Option WatchOptions
-options_of (Some show) (Some enter) (Some bad) = Some (record { show = show; enter = enter; bad_lines = bad })
-options_of _ _ _ = None
+abbrev pub options_of : Option Show → Option (Option ℕ) → Option StreamBadLines → Option ReplyFormat → Option WatchOptions
+options_of (Some show) (Some enter) (Some bad) (Some format) = Some (record { show = show; enter = enter; bad_lines = bad; format = format })
+options_of _ _ _ _ = None
 
 -- what a stream is to be answered, by the matches of the command
 abbrev pub options_in : List Row → Option WatchOptions
 options_in rows =
     options_of (show_in (first_of (codes "show") rows)) (level_in (first_of (codes "enter") rows))
-    (stream_bad_lines_in (first_of (codes "bad-lines") rows))
+    (stream_bad_lines_in (first_of (codes "bad-lines") rows)) (reply_format_in (first_of (codes "format") rows))
+
+-- what stands in front of a stream, by the name of a file: it is none where that is standard input, which brings the stream
+abbrev pub start_in : Option Text → Option StreamStart
+start_in None = Some Unbegun
+start_in (Some name) = if bytes_eq name (codes "-") then None else Some (BegunFrom name)
+
+-- the answer to a stream of these parts, where there is each of them
+abbrev pub stream_of : Option WatchOptions → Option StreamStart → Option StreamQuery
+stream_of (Some options) (Some start) = Some (record { options = options; start = start })
+stream_of _ _ = None
+
+-- the answer to a stream, by the matches of the command
+abbrev pub stream_in : List Row → Option StreamQuery
+stream_in rows = stream_of (options_in rows) (start_in (first_of (codes "from") rows))
 
 -- what the command `watch` asks for
-abbrev pub watch_wish : Option WatchOptions → Wish
+abbrev pub watch_wish : Option StreamQuery → Wish
 watch_wish None = Replies (ValueValidation ∷ [])
-watch_wish (Some options) = Watches options
+watch_wish (Some query) = Watches query
 
 -- what a command of this name with these matches asks for
 abbrev pub wish_by : Text → List Row → Wish
-wish_by name rows = if bytes_eq name (codes "watch") then watch_wish (options_in rows) else wish_about name rows
+wish_by name rows = if bytes_eq name (codes "watch") then watch_wish (stream_in rows) else wish_about name rows
 
 -- what the command that was met asks for
 abbrev pub wish_in : Option (Text × List Row) → Wish
@@ -436,5 +481,5 @@ MayReply shown (Asks query) = ⊥
 MayReply shown (Saves name query) = ⊥
 MayReply shown (Checks name graph) = ⊥
 MayReply shown (ChecksStream name files) = ⊥
-MayReply shown (Watches options) = ⊥
+MayReply shown (Watches query) = ⊥
 MayReply shown (Replies kinds) = (kind : ErrorKind) × IsAmong kind kinds × (is_shown kind ≡ shown)

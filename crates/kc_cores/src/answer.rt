@@ -140,7 +140,9 @@ fn work<W: AsStr, I: FileInput, C: FileInput, O: PipeSink, E, L: Wire, P: Folder
         Ok(Wanted::Save(request)) => save(alloc, request, &mut streams.input, folder),
         Ok(Wanted::Check(request)) => check(alloc, request, streams),
         Ok(Wanted::CheckStream(request)) => check_stream(alloc, &request, streams),
-        Ok(Wanted::Watch(options)) => watch(alloc, options, &mut streams.wire),
+        Ok(Wanted::Watch(request)) => {
+            watch(alloc, request, &mut streams.input, &mut streams.wire)
+        }
     }
 }
 
@@ -164,11 +166,13 @@ fn work<W: AsStr, I: FileInput, C: FileInput, O: PipeSink, E, L: Wire, P: Folder
 /// For a check of an ascending stream it is `StreamChecked`, which says the same, but that no graph is made: at `Refused` the line tells the first
 /// line that is wrong, and at `Uncertified` what shows that the claims are none.
 ///
-/// For a stream that is answered it is `WatchEnded`, and the input, the certificate and `out` are as they were:
+/// For a stream that is answered it is `WatchEnded`, and the certificate and `out` are as they were, and the input too where no file stands in front
+/// of the stream. Where that file was not opened the status is `Unopened`, and where a read of it failed it is `ReadFault`; then the wire is as it
+/// was. Else the file was read to its end, and the record is `StreamAnswered`, behind the text of the file with its last line ended:
 ///
 /// - `happened`: the history of the wire, where it tells one, goes on with these events, reads and writes in one order.
-/// - `answered`: at every moment at which more was asked for, just the answer to the bytes read so far was written. Where the stream ended,
-///   the whole answer was, and where a write failed or memory ended, a prefix of it.
+/// - `answered`: at every moment at which more was asked for, just the answer to the text of the file and to the bytes read so far was written. Where
+///   the stream ended, the whole answer was, and where a write failed or memory ended, a prefix of it.
 /// - `ended`: how the dialogue on the wire ended is how the run ends. Where the stream ended or a line is refused, the status is `Done` where
 ///   none is refused, and else `Refused`, and the line tells which and why; `NoMemory` where there is none for that line. The other ends
 ///   are `ReadFault`, also after 2^64 - 1 reads, `ReaderGone`, `WriteFault` and `NoMemory`. At `Done` and `ReaderGone` there is no line.

@@ -14,7 +14,8 @@
 //! `--stream` it makes no graph, and insists on edges that ascend; with `--pieces` these lie in files that are read one after another
 //! (`specs/StreamChecked.antt`).
 //!
-//! The command `watch` answers a stream on a wire (`specs/WatchEnded.antt`): edges, and then batches of changes, each as soon as it has ended.
+//! The command `watch` answers a stream on a wire (`specs/WatchEnded.antt`): edges, and then batches of changes, each as soon as it has ended. With
+//! `--from` the text of a file stands in front of what the wire brings.
 //!
 //! With `--output` the lines become a file of a folder, once all of them are written; where a fault comes before, the file is as it was
 //! (`specs/Saved.antt`).

@@ -1,4 +1,8 @@
 //! What words ask for.
+ghost use Rattle.std.specs.Prelude.{◌≡◌, option_map};
+ghost use Rattle.kc_cores.specs.Endings.{start_of};
+ghost use Rattle.kc_cores.specs.WatchEnded.{file_of};
+
 use kc_dialect::Dialect;
 use kc_lines::format::Format;
 use kc_watch::WatchOptions;
@@ -42,6 +46,33 @@ pub(crate) struct StreamRequest<'a> {
     pub(crate) files: Vec<&'a str>,
 }
 
+/// What stands in front of a stream.
+#[derive(Clone, Copy, Debug)]
+pub(crate) enum StreamStart<'a> {
+    Nothing,
+    /// The text of the file of this name.
+    From(&'a str),
+}
+
+impl<'a> StreamStart<'a> {
+    /// The file whose text stands in front, if there is one.
+    pub(crate) fn file(self) -> Option<&'a str>
+        ensures { option_map (λ t. t.now) result ≡ file_of (start_of self.entry) }
+    {
+        match self {
+            StreamStart::Nothing => None,
+            StreamStart::From(name) => Some(name),
+        }
+    }
+}
+
+/// The answer to a stream.
+#[derive(Clone, Copy, Debug)]
+pub(crate) struct WatchRequest<'a> {
+    pub(crate) options: WatchOptions,
+    pub(crate) start: StreamStart<'a>,
+}
+
 /// A task whose lines become a file.
 #[derive(Clone, Copy, Debug)]
 pub(crate) struct SaveRequest<'a> {
@@ -56,8 +87,7 @@ pub(crate) enum Wanted<'a> {
     Save(SaveRequest<'a>),
     Check(CheckRequest<'a>),
     CheckStream(StreamRequest<'a>),
-    /// The answer to a stream.
-    Watch(WatchOptions),
+    Watch(WatchRequest<'a>),
 }
 
 /// A task for the graph of a text.

@@ -1,9 +1,10 @@
 //! A run whose lines become a file.
 ghost use Rattle.std.specs.Prelude.{◌≡◌, ◌++◌, ◌⊎◌, [], IfOk, OnErr, OnOk, string_bytes};
 ghost use Rattle.kc_io.specs.Causes.{HasCause};
+ghost use Rattle.kc_files.specs.Folders.{AllStay, HasBytes, OthersStay};
 ghost use Rattle.kc_cores.specs.Endings.{line_of, query_of};
 ghost use Rattle.kc_cores.specs.Listings.{AreReady, made_text};
-ghost use Rattle.kc_cores.specs.Saved.{AllStay, HasBytes, IsUnsavedLine, OthersStay, SaveEnded, left_beside, unsaved_line};
+ghost use Rattle.kc_cores.specs.Saved.{IsUnsavedLine, SaveEnded, left_beside, unsaved_line};
 
 use crate::CoresStatus;
 use crate::ending::{Ending, done_message};

@@ -44,13 +44,13 @@ pub(crate) fn fault_line(alloc: Global, name: &str, fault: ClaimFault) -> Result
         ClaimFault::ManyLater(claim, count) => {
             let (line, id, number) = (claim.line, claim.id, claim.number);
             format!(in alloc;
-                "cores: {name}: line {line}: id {id} is told core number {number}, but {count} neighbours stand behind it; cores order writes a certificate\n"
+                "cores: {name}: line {line}: id {id} is told core number {number}, but has more neighbours after it: {count}; write it by cores order\n"
             )
         }
         ClaimFault::FewSupporters(claim, count) => {
             let (line, id, number) = (claim.line, claim.id, claim.number);
             format!(in alloc;
-                "cores: {name}: line {line}: id {id} is told core number {number}, but only {count} neighbours are told as much or more\n"
+                "cores: {name}: line {line}: id {id} is told core number {number}, but has fewer neighbours told as much or more: {count}\n"
             )
         }
     }

@@ -1,16 +1,33 @@
-//! The words about a stream: what it is answered beside the lines of its graph and of its batches, and what becomes of bad lines.
+//! The words about a stream: what it is answered beside the lines of its graph and of its batches, what becomes of bad lines, and what stands
+//! in front of it.
 ghost use Rattle.std.specs.Prelude.{◌≡◌, IfOk, false, option_map};
 ghost use Rattle.clap.specs.Simple.{app_of};
 ghost use Rattle.clap.specs.Walk.{rule_of};
 ghost use Rattle.clap.specs.declared.builder.command.Command.TheViews.{out-Command};
+ghost use Rattle.kc_cores.specs.Endings.{start_of, stream_of_request};
 ghost use Rattle.kc_cores.specs.Wishes.{enter_option, options_of, show_in, show_of, stream_bad_lines_in, stream_bad_lines_of, stream_command};
-ghost use Rattle.kc_cores.specs.Wishes.{watch_command};
+ghost use Rattle.kc_cores.specs.Wishes.{format_option, reply_format_in, reply_format_of, start_in, stream_of, watch_command, with_answers};
+ghost use Rattle.kc_cores.specs.Wishes.{with_start};
 
 use crate::dialect_words::value_option;
+use crate::request::{StreamStart, WatchRequest};
 use clap::{Arg, ArgAction, Command};
 use kc_graph::NoMemory;
-use kc_watch::{BadLines, Show, WatchOptions};
+use kc_watch::{BadLines, ReplyFormat, Show, WatchOptions};
 use std::alloc::Global;
+
+/// The option `--format FORMAT`.
+fn format_option<'a>(alloc: Global) -> Arg<'a>
+    ensures rule { rule_of result ≡ format_option }
+    ensures local { result.global ≡ false }
+{
+    value_option(
+        alloc,
+        "format",
+        "FORMAT",
+        "How the lines are written: text, in words, or json, an object a line",
+    )
+}
 
 /// The option `--enter K`.
 fn enter_option<'a>(alloc: Global) -> Arg<'a>
@@ -39,9 +56,10 @@ fn stream_command<'a>(alloc: Global) -> Command<'a>
         .after_help("Example: tail -f changes.txt | cores watch --show changes")
 }
 
-/// The command `watch`.
-pub(crate) fn watch_command<'a>(alloc: Global) -> Result<Command<'a>, NoMemory>
-    ensures app { IfOk result (λ made. app_of made ≡ watch_command) }
+/// The command with the options about what a stream is answered.
+fn with_answers<'a>(alloc: Global, command: Command<'a>) -> Result<Command<'a>, NoMemory>
+    requires { (out-Command command).has_globals ≡ false }
+    ensures app { IfOk result (λ made. app_of made ≡ with_answers (app_of command.entry)) }
     ensures local { IfOk result (λ made. (out-Command made).has_globals ≡ false) }
 {
     let show = value_option(
@@ -56,9 +74,33 @@ pub(crate) fn watch_command<'a>(alloc: Global) -> Result<Command<'a>, NoMemory>
         "WHAT",
         "What becomes of a refused line in a batch: stop to end the answers, or batch to drop its batch and go on with the next",
     );
-    let shown = stream_command(alloc).arg(show)?;
+    let shown = command.arg(show)?;
     let entered = shown.arg(enter_option(alloc))?;
-    entered.arg(bad_lines)
+    entered.arg(bad_lines)?.arg(format_option(alloc))
+}
+
+/// The command with the options about what stands in front of a stream.
+fn with_start<'a>(alloc: Global, command: Command<'a>) -> Result<Command<'a>, NoMemory>
+    requires { (out-Command command).has_globals ≡ false }
+    ensures app { IfOk result (λ made. app_of made ≡ with_start (app_of command.entry)) }
+    ensures local { IfOk result (λ made. (out-Command made).has_globals ≡ false) }
+{
+    let from = value_option(
+        alloc,
+        "from",
+        "FILE",
+        "A file whose lines stand in front of the stream, as the edges that it begins with",
+    );
+    command.arg(from)
+}
+
+/// The command `watch`.
+pub(crate) fn watch_command<'a>(alloc: Global) -> Result<Command<'a>, NoMemory>
+    ensures app { IfOk result (λ made. app_of made ≡ watch_command) }
+    ensures local { IfOk result (λ made. (out-Command made).has_globals ≡ false) }
+{
+    let answered = with_answers(alloc, stream_command(alloc))?;
+    with_start(alloc, answered)
 }
 
 /// What is shown of core numbers, by this word.
@@ -103,20 +145,67 @@ pub(crate) fn stream_bad_lines_in(text: Option<&str>) -> Option<BadLines>
     }
 }
 
+/// How the lines of a reply are written, by this word.
+fn reply_format_of(text: &str) -> Option<ReplyFormat>
+    ensures { result ≡ reply_format_of text.now }
+{
+    match text {
+        "text" => Some(ReplyFormat::Words),
+        "json" => Some(ReplyFormat::Json),
+        _ => None,
+    }
+}
+
+/// How the lines of a reply are written: in words where nothing else is said.
+pub(crate) fn reply_format_in(text: Option<&str>) -> Option<ReplyFormat>
+    ensures { result ≡ reply_format_in (option_map (λ t. t.now) text.entry) }
+{
+    match text {
+        None => Some(ReplyFormat::Words),
+        Some(text) => reply_format_of(text),
+    }
+}
+
 /// What a stream is to be answered, where all parts are right.
 pub(crate) fn options_of(
     show: Option<Show>,
     enter: Option<Option<u32>>,
     bad_lines: Option<BadLines>,
+    format: Option<ReplyFormat>,
 ) -> Option<WatchOptions>
-    ensures { result ≡ options_of show enter bad_lines }
+    ensures { result ≡ options_of show enter bad_lines format }
 {
-    match (show, enter, bad_lines) {
-        (Some(show), Some(enter), Some(bad_lines)) => Some(WatchOptions {
+    match (show, enter, bad_lines, format) {
+        (Some(show), Some(enter), Some(bad_lines), Some(format)) => Some(WatchOptions {
             show,
             enter,
             bad_lines,
+            format,
         }),
+        _ => None,
+    }
+}
+
+/// What stands in front of a stream, by the name of a file. It is none where that is standard input, which brings the stream.
+pub(crate) fn start_in(from: Option<&str>) -> Option<StreamStart<'_>>
+    ensures { option_map start_of result ≡ start_in (option_map (λ t. t.now) from.entry) }
+{
+    match from {
+        None => Some(StreamStart::Nothing),
+        Some("-") => None,
+        Some(file) => Some(StreamStart::From(file)),
+    }
+}
+
+/// The answer to a stream of these parts, where there is each of them.
+pub(crate) fn stream_of(
+    options: Option<WatchOptions>,
+    start: Option<StreamStart<'_>>,
+) -> Option<WatchRequest<'_>>
+    ensures { option_map stream_of_request result ≡ stream_of options (option_map start_of start.entry) }
+{
+    match (options, start) {
+        (Some(options), Some(start)) => Some(WatchRequest { options, start }),
         _ => None,
     }
 }

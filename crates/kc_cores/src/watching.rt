@@ -1,32 +1,80 @@
-//! The answer to a stream: the dialogue on the wire, and how the run ends then.
-ghost use Rattle.std.specs.Prelude.{◌≡◌, IfOk, None, string_bytes};
-ghost use Rattle.kc_cores.specs.Endings.{line_of};
-ghost use Rattle.kc_cores.specs.Sentences.{refused_batches_line, stream_refused_line};
-ghost use Rattle.kc_cores.specs.WatchEnded.{HasEndedBy, HasEndedSo, WatchEnded};
+//! The answer to a stream: the dialogue on the wire, behind the text of a file where one is named, and how the run ends then.
+ghost use Rattle.std.specs.Prelude.{◌≡◌, ◌++◌, [], ℕ, List, IfErr, IfOk, IfSome, None, OnOk, Option, Some, option_map, string_bytes};
+ghost use Rattle.std.specs.Io.KnownBytes.{IsAtEnd};
+ghost use Rattle.kc_dialogue.specs.Openings.{HasOpened, with_end};
+ghost use Rattle.kc_watch.specs.Text.{reply, reply_at_end};
+ghost use Rattle.kc_watch.specs.Watching.{WasFed};
+ghost use Rattle.kc_cores.specs.Endings.{HasNoFront, line_of, start_of, stream_of_request};
+ghost use Rattle.kc_cores.specs.Sentences.{at_line, refused_batches_line, refused_behind, stream_refused_line};
+ghost use Rattle.kc_cores.specs.WatchEnded.{HasEndedBy, HasEndedSo, StandsInFront, StreamAnswered, WasReadInFront, WatchEnded};
+ghost use Rattle.kc_cores.specs.Wishes.{BegunFrom, Unbegun};
 
 use crate::CoresStatus;
-use crate::ending::Ending;
+use crate::ending::{Ending, in_file, unopened};
+use crate::input::FileInput;
 use crate::message::Message;
+use crate::request::{StreamStart, WatchRequest};
 use crate::sentences::stream_sentence;
-use kc_dialogue::answer::answer_wire;
+use kc_dialogue::answer::answer_opened;
 use kc_dialogue::end::DialogueEnd;
+use kc_dialogue::flow::Flow;
+use kc_dialogue::open::open_with;
+use kc_dialogue::opening::Opening;
+use kc_dialogue::opening_fault::OpeningFault;
 use kc_graph::NoMemory;
 use kc_text::Refusal;
-use kc_watch::{WatchOptions, Watcher};
+use kc_watch::Watcher;
 use kc_wire::wire::Wire;
 use std::alloc::Global;
 
-/// Which line of the stream is refused, and why.
-fn stream_refused_line(alloc: Global, refusal: Refusal) -> Result<String, NoMemory>
-    ensures { IfOk result (λ line. string_bytes line ≡ stream_refused_line refusal) }
+/// What stands in front of a stream: the file, if there is one, and how many of its lines were read.
+#[derive(Clone, Copy)]
+struct StreamFront<'a> {
+    file: Option<&'a str>,
+    lines: u64,
+}
+
+/// The line of this number, or the input as a whole where none is meant.
+fn at_line(alloc: Global, line: u64) -> Result<String, NoMemory>
+    ensures { IfOk result (λ text. string_bytes text ≡ at_line line) }
+{
+    if line == 0 {
+        String::from_str(alloc, "input")
+    } else {
+        format!(in alloc; "line {line}")
+    }
+}
+
+/// Which line of the stream, or of a file, is refused, and why.
+fn stream_refused_line(
+    alloc: Global,
+    file: Option<&str>,
+    refusal: Refusal,
+) -> Result<String, NoMemory>
+    ensures { IfOk result (λ line. string_bytes line ≡ stream_refused_line (option_map (λ t. t.now) file.entry) refusal) }
 {
     let Refusal { line, kind } = refusal;
     let sentence = stream_sentence(kind);
-    if line == 0 {
-        format!(in alloc; "cores: input: {sentence}\n")
-    } else {
-        format!(in alloc; "cores: line {line}: {sentence}\n")
+    let front = in_file(alloc, file)?;
+    let place = at_line(alloc, line)?;
+    format!(in alloc; "cores: {front}{place}: {sentence}\n")
+}
+
+/// Which line is refused of a stream that stands behind this, and why.
+fn refused_behind(
+    alloc: Global,
+    front: StreamFront<'_>,
+    refusal: Refusal,
+) -> Result<String, NoMemory>
+    ensures { IfOk result (λ line. string_bytes line
+        ≡ refused_behind (option_map (λ t. t.now) front.entry.file) front.entry.lines refusal) }
+{
+    let Refusal { line, kind } = refusal;
+    if line <= front.lines {
+        return stream_refused_line(alloc, front.file, refusal);
     }
+    let line = line - front.lines;
+    stream_refused_line(alloc, None, Refusal { line, kind })
 }
 
 /// How many batches were refused.
@@ -41,7 +89,7 @@ fn refused_batches_line(alloc: Global, count: u64) -> Result<String, NoMemory>
 
 /// The end of a run that has answered all and met no line that ends the reading, of whose batches so many were refused.
 fn done_by(alloc: Global, refused_batches: u64) -> Ending
-    ensures { HasEndedBy None refused_batches result.status (line_of result) }
+    ensures { (file : Option (List ℕ)) (lines : ℕ) → HasEndedBy file lines None refused_batches result.status (line_of result) }
 {
     if refused_batches == 0 {
         return Ending {
@@ -58,14 +106,12 @@ fn done_by(alloc: Global, refused_batches: u64) -> Ending
     }
 }
 
-/// The end of a run that has answered all, of whose lines this one has ended the reading, if one has, and of whose batches so many were refused.
-fn end_by(alloc: Global, refusal: Option<Refusal>, refused_batches: u64) -> Ending
-    ensures { HasEndedBy refusal refused_batches result.status (line_of result) }
+/// The end of a run whose reading this line has ended.
+fn refused_by(alloc: Global, front: StreamFront<'_>, refusal: Refusal) -> Ending
+    ensures { (count : ℕ)
+        → HasEndedBy (option_map (λ t. t.now) front.entry.file) front.entry.lines (Some refusal) count result.status (line_of result) }
 {
-    let Some(refusal) = refusal else {
-        return done_by(alloc, refused_batches);
-    };
-    match stream_refused_line(alloc, refusal) {
+    match refused_behind(alloc, front, refusal) {
         Ok(line) => Ending {
             status: CoresStatus::Refused,
             message: Message::Made(line),
@@ -74,12 +120,34 @@ fn end_by(alloc: Global, refusal: Option<Refusal>, refused_batches: u64) -> Endi
     }
 }
 
+/// The end of a run that has answered all, of whose lines this one has ended the reading, if one has, and of whose batches so many were refused.
+fn end_by(
+    alloc: Global,
+    front: StreamFront<'_>,
+    refusal: Option<Refusal>,
+    refused_batches: u64,
+) -> Ending
+    ensures { HasEndedBy (option_map (λ t. t.now) front.entry.file) front.entry.lines refusal refused_batches result.status (line_of result) }
+{
+    match refusal {
+        None => done_by(alloc, refused_batches),
+        Some(refusal) => refused_by(alloc, front, refusal),
+    }
+}
+
 /// The end of a run whose dialogue has ended so, and which tells this of its stream.
-fn end_so(alloc: Global, how: DialogueEnd, refusal: Option<Refusal>, refused_batches: u64) -> Ending
-    ensures { HasEndedSo how (refusal, refused_batches) (refusal, refused_batches) result.status (line_of result) }
+fn end_so(
+    alloc: Global,
+    front: StreamFront<'_>,
+    how: DialogueEnd,
+    refusal: Option<Refusal>,
+    refused_batches: u64,
+) -> Ending
+    ensures { HasEndedSo (option_map (λ t. t.now) front.entry.file) front.entry.lines how (refusal, refused_batches) (refusal, refused_batches)
+        result.status (line_of result) }
 {
     match how {
-        DialogueEnd::Done | DialogueEnd::Ended => end_by(alloc, refusal, refused_batches),
+        DialogueEnd::Done | DialogueEnd::Ended => end_by(alloc, front, refusal, refused_batches),
         DialogueEnd::ReadFault | DialogueEnd::Exhausted => Ending::read_fault(),
         DialogueEnd::ReaderGone => Ending::reader_gone(),
         DialogueEnd::WriteFault => Ending::unwritten(),
@@ -87,11 +155,117 @@ fn end_so(alloc: Global, how: DialogueEnd, refusal: Option<Refusal>, refused_bat
     }
 }
 
-/// Answers the stream of a wire, each part as soon as it has ended, until it ends, a refused line ends the reading or a call fails.
-pub(crate) fn watch<L: Wire>(alloc: Global, options: WatchOptions, wire: &mut L) -> Ending
-    ensures { WatchEnded L.Wire options result.status (line_of result) wire.old wire.new }
+/// Feeds a watcher that was fed nothing with all that the input has left, which is the file of this name.
+fn open_left<I: FileInput>(
+    alloc: Global,
+    name: &str,
+    input: &mut I,
+    watcher: &mut Watcher,
+) -> Result<Opening, Ending>
+    requires { WasFed watcher.old [] }
+    ensures opened { IfOk result (λ opening. (bytes : List ℕ) × IfSome (I.left input.old) (λ all. bytes ≡ all)
+        × HasOpened (reply watcher.new.options) (reply_at_end watcher.new.options) (WasFed watcher.new) (with_end bytes) opening.flow opening.text.items) }
+    ensures read { OnOk result (IsAtEnd (I.left input.new)) }
+    ensures options { watcher.new.options ≡ watcher.old.options }
+    ensures faultless { OnOk result (I.faults input.new ≡ I.faults input.old) }
+    ensures stopped { IfErr result (λ ending. HasNoFront ending (λ _. I.left input.old) (BegunFrom name.now) (I.faults input.old) (I.faults input.new)) }
 {
-    let mut watcher = Watcher::new(alloc, options);
-    let how = answer_wire(alloc, wire, &mut watcher);
-    end_so(alloc, how, watcher.refusal(), watcher.refused_batches())
+    match open_with(alloc, input, watcher) {
+        Ok(opening) => Ok(opening),
+        Err(OpeningFault::ReadFault) => Err(Ending::read_fault()),
+        Err(OpeningFault::Exhausted) => Err(Ending::read_fault()),
+        Err(OpeningFault::NoMemory) => Err(Ending::no_memory()),
+    }
+}
+
+/// Feeds a watcher that was fed nothing with the file of this name.
+fn open_from<I: FileInput>(
+    alloc: Global,
+    name: &str,
+    input: &mut I,
+    watcher: &mut Watcher,
+) -> Result<Opening, Ending>
+    requires { WasFed watcher.old [] }
+    ensures opened { IfOk result (λ opening. (bytes : List ℕ) × IfSome (I.behind input.old name.now) (λ all. bytes ≡ all)
+        × HasOpened (reply watcher.new.options) (reply_at_end watcher.new.options) (WasFed watcher.new) (with_end bytes) opening.flow opening.text.items) }
+    ensures read { OnOk result (IsAtEnd (I.left input.new)) }
+    ensures options { watcher.new.options ≡ watcher.old.options }
+    ensures faultless { OnOk result (I.faults input.new ≡ I.faults input.old) }
+    ensures stopped { IfErr result (λ ending. HasNoFront ending (I.behind input.old) (BegunFrom name.now) (I.faults input.old) (I.faults input.new)) }
+{
+    match input.open(name) {
+        Ok(()) => open_left(alloc, name, input, watcher),
+        Err(fault) => Err(unopened(alloc, name, fault)),
+    }
+}
+
+/// Feeds a watcher that was fed nothing with what stands in front of a stream.
+fn open<I: FileInput>(
+    alloc: Global,
+    start: StreamStart<'_>,
+    input: &mut I,
+    watcher: &mut Watcher,
+) -> Result<Opening, Ending>
+    requires { WasFed watcher.old [] }
+    ensures opened { IfOk result (λ opening. (front : List ℕ) × StandsInFront (I.behind input.old) (start_of start.entry) front
+        × HasOpened (reply watcher.new.options) (reply_at_end watcher.new.options) (WasFed watcher.new) front opening.flow opening.text.items) }
+    ensures read { OnOk result (WasReadInFront (start_of start.entry) (I.left input.new)) }
+    ensures options { watcher.new.options ≡ watcher.old.options }
+    ensures faultless { OnOk result (I.faults input.new ≡ I.faults input.old) }
+    ensures stopped { IfErr result (λ ending. HasNoFront ending (I.behind input.old) (start_of start.entry) (I.faults input.old) (I.faults input.new)) }
+    ensures untouched { start_of start.entry ≡ Unbegun → input.new ≡ input.old }
+{
+    match start {
+        StreamStart::From(name) => open_from(alloc, name, input, watcher),
+        StreamStart::Nothing => Ok(Opening {
+            text: Vec::new(alloc),
+            flow: Flow::Open,
+        }),
+    }
+}
+
+/// Answers the stream of a wire behind what a watcher was fed, each part as soon as it has ended, until it ends, a refused line ends the reading or
+/// a call fails.
+fn answer_behind<L: Wire>(
+    alloc: Global,
+    file: Option<&str>,
+    opening: &Opening,
+    watcher: &mut Watcher,
+    wire: &mut L,
+) -> Ending
+    requires { (start : List ℕ) × HasOpened (reply watcher.old.options) (reply_at_end watcher.old.options) (WasFed watcher.old) start
+        opening.now.flow opening.now.text.items }
+    ensures { (start : List ℕ) → HasOpened (reply watcher.old.options) (reply_at_end watcher.old.options) (WasFed watcher.old) start
+        opening.now.flow opening.now.text.items → StreamAnswered L.Wire watcher.old.options (option_map (λ t. t.now) file.entry) start result.status
+        (line_of result) wire.old wire.new }
+{
+    let front = StreamFront {
+        file,
+        lines: watcher.lines(),
+    };
+    let how = answer_opened(alloc, wire, watcher, opening);
+    end_so(
+        alloc,
+        front,
+        how,
+        watcher.refusal(),
+        watcher.refused_batches(),
+    )
+}
+
+/// Answers the stream of a wire, behind the text of a file where one is named.
+pub(crate) fn watch<I: FileInput, L: Wire>(
+    alloc: Global,
+    request: WatchRequest<'_>,
+    input: &mut I,
+    wire: &mut L,
+) -> Ending
+    ensures { WatchEnded I.Source I.behind L.Wire (stream_of_request request.entry) result.status (line_of result) input.old input.new
+        wire.old wire.new }
+{
+    let mut watcher = Watcher::new(alloc, request.options);
+    match open(alloc, request.start, input, &mut watcher) {
+        Ok(opening) => answer_behind(alloc, request.start.file(), &opening, &mut watcher, wire),
+        Err(ending) => ending,
+    }
 }

@@ -13,17 +13,21 @@ ghost use Rattle.clap.specs.declared.builder.command.Command.TheViews.{out-Comma
 ghost use Rattle.kc_cores.specs.Wishes.{Replies, bare_command, certificate_command, certificate_rule, check_command, check_of, check_wish, core_option};
 ghost use Rattle.kc_cores.specs.Wishes.{cores_command, edges_flag};
 ghost use Rattle.kc_cores.specs.Wishes.{is_set, level_in, members_command, members_in, members_task, quiet_command, quiet_flag};
-ghost use Rattle.kc_cores.specs.Wishes.{options_in, task_command, task_in, watch_wish, wish_about, wish_by, wish_for, wish_in, wish_of, with_cores};
+ghost use Rattle.kc_cores.specs.Wishes.{options_in, stream_in, task_command, task_in, watch_wish, wish_about, wish_by, wish_for, wish_in, wish_of, with_cores};
 ghost use Rattle.kc_cores.specs.Wishes.{are_pieces, pieces_option, pieces_wish, stream_flag, stream_wish, tells_separator, wish_to, with_tasks};
 ghost use Rattle.kc_cores.specs.Wishes.{writing_command};
-ghost use Rattle.kc_cores.specs.Endings.{IsReplyFor, IsRequestFor, RepliesTo, query_of, text_of};
+ghost use Rattle.kc_cores.specs.Endings.{IsReplyFor, IsRequestFor, RepliesTo, query_of, stream_of_request, text_of};
 
 use crate::dialect_words::{
     file_named, ids_option, number_of, tells_separator, text_in, with_dialect,
 };
 use crate::output_words::{format_in, format_option, output_option};
-use crate::request::{CheckRequest, NamedText, Request, SaveRequest, StreamRequest, Task, Wanted};
-use crate::watch_words::{options_of, show_in, stream_bad_lines_in, watch_command};
+use crate::request::{
+    CheckRequest, NamedText, Request, SaveRequest, StreamRequest, Task, Wanted, WatchRequest,
+};
+use crate::watch_words::{
+    options_of, reply_format_in, show_in, start_in, stream_bad_lines_in, stream_of, watch_command,
+};
 use clap::error::ErrorKind;
 use clap::{Arg, ArgAction, ArgMatches, Command, Error};
 use kc_graph::NoMemory;
@@ -609,7 +613,16 @@ fn options_in(found: &ArgMatches<'_>) -> Option<WatchOptions>
 {
     let show = show_in(found.get_str("show"));
     let enter = level_in(found.get_str("enter"));
-    options_of(show, enter, stream_bad_lines_in(found.get_str("bad-lines")))
+    let bad_lines = stream_bad_lines_in(found.get_str("bad-lines"));
+    let format = reply_format_in(found.get_str("format"));
+    options_of(show, enter, bad_lines, format)
+}
+
+/// The answer to a stream, by the matches of the command `watch`.
+fn stream_in<'a>(found: &ArgMatches<'a>) -> Option<WatchRequest<'a>>
+    ensures { option_map stream_of_request result ≡ stream_in (rows_of (found_of found.now)) }
+{
+    stream_of(options_in(found), start_in(found.get_str("from")))
 }
 
 /// What is replied where the value of an option about a stream is not right.
@@ -618,7 +631,8 @@ fn wrong_show(alloc: Global) -> Reply
 {
     match String::from_str(
         alloc,
-        "cores: --show takes summary or changes, --enter a number, and --bad-lines stop or batch\n",
+        "cores: --show takes summary or changes, --enter a number, --bad-lines stop or batch, --format text or json, and --from a file, \
+         not standard input\n",
     ) {
         Ok(text) => Reply::Mistake(text),
         Err(_) => Reply::NoMemory,
@@ -626,13 +640,13 @@ fn wrong_show(alloc: Global) -> Reply
 }
 
 /// What the command `watch` asks for, where its options are right.
-fn watch_for<'a>(alloc: Global, options: Option<WatchOptions>) -> Result<Wanted<'a>, Reply>
-    ensures asks { IfOk result (λ wanted. IsRequestFor wanted (watch_wish options)) }
-    ensures replies { IfErr result (λ reply. RepliesTo reply (watch_wish options)) }
+fn watch_for<'a>(alloc: Global, request: Option<WatchRequest<'a>>) -> Result<Wanted<'a>, Reply>
+    ensures asks { IfOk result (λ wanted. IsRequestFor wanted (watch_wish (option_map stream_of_request request.entry))) }
+    ensures replies { IfErr result (λ reply. RepliesTo reply (watch_wish (option_map stream_of_request request.entry))) }
 {
-    match options {
+    match request {
         None => Err(wrong_show(alloc)),
-        Some(options) => Ok(Wanted::Watch(options)),
+        Some(request) => Ok(Wanted::Watch(request)),
     }
 }
 
@@ -642,7 +656,7 @@ fn wanted_by<'a>(alloc: Global, name: &str, found: &ArgMatches<'a>) -> Result<Wa
     ensures replies { IfErr result (λ reply. RepliesTo reply (wish_by name.now (rows_of (found_of found.now)))) }
 {
     if name == "watch" {
-        return watch_for(alloc, options_in(found));
+        return watch_for(alloc, stream_in(found));
     }
     wanted_of(alloc, name, found)
 }

@@ -1,5 +1,6 @@
 -- What public contracts speak of.
 pub mod Dialogues
 pub mod Endings
+pub mod Openings
 pub mod Replies
 pub mod Turns

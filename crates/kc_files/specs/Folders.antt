@@ -1,5 +1,5 @@
 -- What folders hold.
-use Rattle.std.specs.Prelude.{◌≡◌, ℕ, Bool, List, [], Option, None, Some, if◌then◌else◌}
+use Rattle.std.specs.Prelude.{◌≡◌, ℕ, Bool, List, [], Option, None, Some, IfSome, if◌then◌else◌}
 use Rattle.std.specs.Str.{bytes_eq}
 use Rattle.kc_io.specs.Memory.{SinkState}
 use Rattle.kc_files.specs.declared.fault.FolderFault.{FolderFault}
@@ -12,6 +12,18 @@ Held = Option (Option (List ℕ))
 abbrev pub held_as : Option (List ℕ) → Held
 held_as None = None
 held_as (Some bytes) = Some (Some bytes)
+
+-- the file has these bytes, where that is told
+abbrev pub HasBytes : Held → List ℕ → Type 0
+HasBytes held bytes = IfSome held (λ file. file ≡ Some bytes)
+
+-- all files are as they were
+abbrev pub AllStay : {P : Type 0} → (P → List ℕ → Held) → P → P → Type 0
+AllStay holds p p' = (file : List ℕ) → holds p' file ≡ holds p file
+
+-- all other files are as they were
+abbrev pub OthersStay : {P : Type 0} → (P → List ℕ → Held) → List ℕ → P → P → Type 0
+OthersStay holds name p p' = (file : List ℕ) → (file ≡ name → ⊥) → holds p' file ≡ holds p file
 
 -- nothing is known of any file
 abbrev pub TellsNothing : (List ℕ → Held) → Type 0

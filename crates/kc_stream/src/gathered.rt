@@ -75,6 +75,13 @@ impl Gathered {
         &self.updates
     }
 
+    /// How many lines were read, up to the greatest number.
+    pub fn lines(&self) -> u64
+        ensures { result ≡ self.now.lines }
+    {
+        self.lines
+    }
+
     /// Whether there was a batch line.
     pub fn in_batch(&self) -> bool
         ensures { result ≡ self.now.in_batch }

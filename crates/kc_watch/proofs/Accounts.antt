@@ -1,15 +1,12 @@
 -- Accounts of streams, with one batch more.
 use Rattle.std.proofs.Common.{◌≡◌, ◌≤◌, ◌<◌, ℕ, suc, zero, true, List, [], ◌∷◌, ◌++◌, length, map, fold, refl, sym, ap, ap₂, ◌∙◌, arith}
-use Rattle.std.proofs.Common.{subst, inl, inr, nat_eq, append_assoc, append-nil, length-append, Option, Some, None, Vec, Global, get_or}
+use Rattle.std.proofs.Common.{subst, length-append, Option, Some, None, Vec, Global, get_or}
 use Rattle.std.specs.Prelude.{is_some}
 use Rattle.std.specs.List.{flat_map}
 use Rattle.std.specs.Option.{option_to_list}
-use Rattle.std.specs.Set.{is_member}
-use Rattle.std.proofs.lemmas.Bool.{cases_Bool}
 use Rattle.std.proofs.lemmas.List.{length-map}
 use Rattle.std.proofs.lemmas.List.Sums.{fold-append}
 use Rattle.kc_lists.specs.Lists.{Distinct}
-use Rattle.kc_lists.proofs.Counting.{Distinct-push}
 use Rattle.kc_graph.specs.Core.{AreCoreNumbers, greatest}
 use Rattle.kc_graph.specs.Growing.{with_vertices}
 use Rattle.kc_graph.specs.SimpleGraph.{SimpleGraph}

@@ -1,9 +1,12 @@
 -- A batch that has ended: the account behind it, and its text.
-use Rattle.std.proofs.Common.{◌≡◌, ◌++◌, ℕ, List, length, sym, ap, ◌∙◌, subst}
+use Rattle.std.proofs.Common.{◌≡◌, ◌∷◌, ℕ, List, length, sym, ap, ◌∙◌, subst}
 use Rattle.kc_lists.specs.Lists.{Distinct}
 use Rattle.kc_graph.specs.SimpleGraph.{SimpleGraph}
 use Rattle.kc_text.specs.Inputs.{EdgeBatch}
-use Rattle.kc_changes.specs.Changed.{lines_behind}
+use Rattle.kc_changes.specs.Changed.{facts_behind}
+use Rattle.kc_reply.specs.Facts as fact
+use Rattle.kc_reply.specs.Texts.{facts_text}
+use Rattle.kc_report.specs.declared.Line.{Line}
 use Rattle.kc_keeper.specs.declared.changes.CoreChange.{CoreChange}
 use Rattle.kc_watch.specs.Accounts.{Account, core_number_in, core_numbers_of, entered, graph_with}
 use Rattle.kc_watch.specs.Endings.{AreMoves, HasEndedBetween, IsAccountBefore}
@@ -41,8 +44,11 @@ module _ (before : Account) (number : ℕ) (g : SimpleGraph) (ids : List ℕ) (b
   }
 
   -- its line and what stands behind are its text
-  pub text-is : (options : WatchOptions) (line : List ℕ) → line ≡ line_about number g batch new
-      → line ++ lines_behind options.show options.enter (core_number_in before) (core_number_in after) after.ids ≡ batch_text options before batch after
+  pub text-is : (options : WatchOptions) (line : Line) → line ≡ line_about number g batch new
+      → facts_text options.format
+      (fact.Summary line ∷ facts_behind options.show options.enter (core_number_in before) (core_number_in after) after.ids)
+      ≡ batch_text options before batch after
   text-is options line is =
-      ap (λ (l : List ℕ). l ++ lines_behind options.show options.enter (core_number_in before) (core_number_in after) after.ids)
+      ap (λ (l : Line). facts_text options.format
+      (fact.Summary l ∷ facts_behind options.show options.enter (core_number_in before) (core_number_in after) after.ids))
       (is ∙ (λ i. line_about (b.number_is i) (sym b.graph_is i) batch (sym after-graph i)))

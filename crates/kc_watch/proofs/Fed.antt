@@ -3,8 +3,10 @@ use Rattle.std.proofs.Common.{◌≡◌, ◌<◌, ℕ, Bool, true, false, cond, 
 use Rattle.std.proofs.Common.{append_assoc, append-nil, Option, Some, None}
 use Rattle.std.specs.Prelude.{OnErr, OnOk, Result, Ok, Err, is_some}
 use Rattle.kc_dialogue.specs.Replies.{IsPrefixOf, StaysFrom}
+use Rattle.kc_text.specs.declared.line.TextLine.TheVariants as said
 use Rattle.kc_text.specs.declared.refusal.Refusal.{Refusal}
 use Rattle.kc_text.specs.Lines.{EndsLine}
+use Rattle.kc_text.specs.Meaning.{with_line}
 use Rattle.kc_text.proofs.SaidAppend.{ends-append, ends-behind}
 use Rattle.kc_stream.specs.Asking.{stream_lines}
 use Rattle.kc_stream.specs.Ended.{IsOpen, ended}
@@ -14,12 +16,13 @@ use Rattle.kc_stream.specs.declared.gathered.Gathered.{Gathered}
 use Rattle.kc_stream.specs.declared.stream_line.StreamLine.{StreamLine}
 use Rattle.kc_stream.proofs.Cuts.{ended-append, ended-parts, open-append}
 use Rattle.kc_stream.proofs.Reading.{hear-none, more-ended, so-far, stream-append}
-use Rattle.kc_watch.specs.Text.{answers_behind, end_answer, ending_text, reply, reply_at_end}
-use Rattle.kc_watch.specs.Watching.{HasEnded, StandsAt, WasFed}
+use Rattle.kc_watch.specs.Text.{answers_behind, answers_facts, end_answer, end_facts, ending_facts, ending_text, reply, reply_at_end, told_in}
+use Rattle.kc_watch.specs.Watching.{HasEnded, KeepsAccount, KeepsAll, StandsAt, WasFed}
 use Rattle.kc_watch.specs.declared.course.Course.{Course}
 use Rattle.kc_watch.specs.declared.options.WatchOptions.{WatchOptions}
 use Rattle.kc_watch.specs.declared.watcher.Watcher.{Watcher}
 use Rattle.kc_watch.proofs.Lines.{answers-append, answers-none, going-heard}
+use Rattle.kc_reply.proofs.Texts.{texts-append}
 
 -- what the lines of some bytes come to
 abbrev pub heard_of : BadLines → List ℕ → Heard
@@ -39,6 +42,12 @@ heard-parts bad done rest e is_open = by-refusal (heard_of bad done).refusal ref
 -- what the lines of some bytes are answered
 abbrev pub text_of : WatchOptions → List ℕ → List ℕ
 text_of options bytes = answers_behind options nothing_heard (stream_lines bytes)
+
+-- the last reply is what all lines are answered, and then what the end is
+at-end : (options : WatchOptions) (bytes : List ℕ)
+    → reply_at_end options bytes ≡ text_of options bytes ++ end_answer options (heard_at_end options.bad_lines bytes)
+at-end options bytes =
+    texts-append options.format (answers_facts options nothing_heard (stream_lines bytes)) (end_facts options (heard_at_end options.bad_lines bytes))
 
 -- what is answered to more bytes behind lines that have ended
 text-more : (options : WatchOptions) (done more : List ℕ) → EndsLine done
@@ -131,9 +140,10 @@ module _ (watcher : Watcher) (fed : List ℕ) (f : WasFed watcher fed) where
       ∙ ap (λ (t : List ℕ). text_of watcher.options f.done ++ t) (answers-none watcher.options heard_by (stream_lines (f.rest ++ more)) (refused-heard some))
       ∙ append-nil (text_of watcher.options f.done) in
       let end : end_answer watcher.options (heard_at_end (bad_of watcher) (fed ++ more)) ≡ [] =
-      ap (end_answer watcher.options) none ∙ ap (λ (b : Bool). cond b [] (ending_text watcher.options heard_by.dropped heard_by.told)) (refused-heard some) in (
+      ap (end_answer watcher.options) none
+      ∙ ap (λ (b : Bool). told_in watcher.options (cond b [] (ending_facts watcher.options heard_by.dropped heard_by.told))) (refused-heard some) in (
         more-reply more (refused-open some),
-        ap₂ (λ (a b : List ℕ). a ++ b) lines end ∙ append-nil (text_of watcher.options f.done) ∙ sym fed-reply,
+        at-end watcher.options (fed ++ more) ∙ ap₂ (λ (a b : List ℕ). a ++ b) lines end ∙ append-nil (text_of watcher.options f.done) ∙ sym fed-reply,
       )
 
   -- and nothing else once all has come
@@ -144,6 +154,7 @@ module _ (watcher : Watcher) (fed : List ℕ) (f : WasFed watcher fed) where
       ∙ ap (heard_at_end (bad_of watcher)) (append-nil fed) in (
         f.stands.gathers.refusal ∙ ap (λ (h : Heard). h.refusal) same,
         f.stands.gathers.refused_batches ∙ ap (λ (h : Heard). h.refused_batches) same,
+        λ none. refused-open some (sym f.stands.gathers.refusal ∙ none),
       )
 
   -- a watcher of which a line is refused was fed whatever comes
@@ -300,7 +311,7 @@ module _ (watcher : Watcher) (none : watcher.course.gathered.refusal ≡ None) (
   -- the last reply: the reply so far, what the lines are answered, and what the end is
   end-reply : reply_at_end watcher.options fed ≡ reply watcher.options fed ++ (answer_then ++ end_answer watcher.options heard_then)
   end-reply =
-      ap₂ (λ (a b : List ℕ). a ++ b)
+      at-end watcher.options fed ∙ ap₂ (λ (a b : List ℕ). a ++ b)
       (end-lines watcher fed f none
       ∙ ap (λ (t : List ℕ). reply watcher.options fed ++ answers_behind watcher.options (heard_by watcher fed f) (stream_lines t)) (sym is))
       (ap (end_answer watcher.options) end-then)
@@ -314,6 +325,14 @@ module _ (watcher : Watcher) (none : watcher.course.gathered.refusal ≡ None) (
     ap (λ (g : Gathered). g.refusal) same ∙ s.gathers.refusal ∙ ap (λ (h : Heard). h.refusal) (sym end-then),
     ap (λ (g : Gathered). g.refused_batches) same ∙ s.gathers.refused_batches ∙ ap (λ (h : Heard). h.refused_batches) (sym end-then),
   )
+
+  -- a course that has come to it and ended what was open keeps all that was told
+  pub end-keeps : (new course : Course) → StandsAt course heard_then → is_some course.gathered.refusal ≡ false → new.gathered ≡ course.gathered
+      → KeepsAccount new.kept new.ended (with_line heard_then.told said.Batch) → KeepsAll new (heard_at_end (bad_of watcher) fed).told
+  end-keeps new course s going same keeps = subst (λ (h : Heard). KeepsAll new h.told) (sym end-then) (record {
+    ids = ap (λ (g : Gathered). g.ids) same ∙ (s.gathers.holds (going-heard course heard_then s going)).ids;
+    keeps = keeps;
+  })
 
   -- memory ended before all was read
   pub end-broken : (put : List ℕ) → IsPrefixOf (answer_then) put
@@ -329,7 +348,8 @@ module _ (watcher : Watcher) (none : watcher.course.gathered.refusal ≡ None) (
       → put ≡ answer_then → reply_at_end watcher.options fed ≡ reply watcher.options fed ++ put
   end-refused new put s some adds =
       let end : end_answer watcher.options heard_then ≡ [] =
-      ap (λ (b : Bool). cond b [] (ending_text watcher.options heard_then.dropped heard_then.told)) (ap is_some (sym s.gathers.refusal) ∙ some) in
+      ap (λ (b : Bool). told_in watcher.options (cond b [] (ending_facts watcher.options heard_then.dropped heard_then.told)))
+      (ap is_some (sym s.gathers.refusal) ∙ some) in
       end-reply ∙ ap (λ (t : List ℕ). reply watcher.options fed ++ t)
       (ap (λ (t : List ℕ). answer_then ++ t) end ∙ append-nil (answer_then) ∙ sym adds)
 
@@ -339,7 +359,8 @@ module _ (watcher : Watcher) (none : watcher.course.gathered.refusal ≡ None) (
       → GoesOn r (reply_at_end watcher.options fed) (reply watcher.options fed) (put ++ more)
   end-answers r new put more s going adds answers =
       let end : end_answer watcher.options heard_then ≡ ending_text watcher.options heard_then.dropped heard_then.told =
-      ap (λ (o : Option Refusal). cond (is_some o) [] (ending_text watcher.options heard_then.dropped heard_then.told)) (going-heard new heard_then s going) in
+      ap (λ (o : Option Refusal). told_in watcher.options (cond (is_some o) [] (ending_facts watcher.options heard_then.dropped heard_then.told)))
+      (going-heard new heard_then s going) in
       let all : reply_at_end watcher.options fed ≡ (reply watcher.options fed ++ put) ++ ending_text watcher.options heard_then.dropped heard_then.told =
       end-reply ∙ ap₂ (λ (a b : List ℕ). reply watcher.options fed ++ (a ++ b)) (sym adds) end
       ∙ sym (append_assoc (reply watcher.options fed) put (ending_text watcher.options heard_then.dropped heard_then.told)) in

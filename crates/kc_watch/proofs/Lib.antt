@@ -4,6 +4,9 @@ pub mod Dropping
 pub mod Ended
 pub mod Entering
 pub mod Fed
+pub mod FirstEdges
 pub mod Lines
 pub mod Ordered
 pub mod Parts
+pub mod Stated
+pub mod Spare

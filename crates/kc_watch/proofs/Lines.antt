@@ -20,7 +20,10 @@ use Rattle.kc_stream.specs.declared.stream_line.StreamLine.{StreamLine}
 use Rattle.kc_stream.specs.declared.stream_line.StreamLine.TheVariants.{Tells, Asks}
 use Rattle.kc_lists.proofs.Results.{none-from}
 use Rattle.kc_stream.proofs.Reading.{hear-append, hear-judged, hear-passed, hear-refused}
-use Rattle.kc_watch.specs.Text.{answer_behind, answers_behind, ending_text, line_answer, question_answer, told_answer}
+use Rattle.kc_reply.specs.Facts.{Fact}
+use Rattle.kc_reply.proofs.Texts.{texts-append}
+use Rattle.kc_watch.specs.Text.{answer_behind, answer_facts, answers_behind, answers_facts, ending_facts, ending_text, line_facts, question_answer}
+use Rattle.kc_watch.specs.Text.{question_facts, told_facts, told_in}
 use Rattle.kc_watch.specs.Watching.{KeepsAccount, StandsAt}
 use Rattle.kc_watch.specs.declared.course.Course.{Course}
 use Rattle.kc_watch.specs.declared.kept.Kept.{Kept}
@@ -113,26 +116,24 @@ on-both (Ok a) P Q p q = (p, tt)
 on-both (Err x) P Q p q = (tt, q)
 
 -- what was put whole, or not at all, begins what was to be put
-pub dropped-put : {A E : Type 0} (r : Result A E) (text put : List ℕ) → OnOk r (put ≡ text) × OnErr r (put ≡ [])
-    → OnOk r (put ≡ text) × OnErr r (IsPrefixOf text put)
-dropped-put (Ok a) text put (is, none) = (is, tt)
-dropped-put (Err x) text put (is, none) = (tt, subst (IsPrefixOf text) (sym none) (prefix-none text))
+pub dropped-put : {A E : Type 0} (r : Result A E) (text whole put : List ℕ) → text ≡ whole → OnOk r (put ≡ text) × OnErr r (put ≡ [])
+    → OnOk r (put ≡ whole) × OnErr r (IsPrefixOf whole put)
+dropped-put (Ok a) text whole put same (is, none) = (is ∙ same, tt)
+dropped-put (Err x) text whole put same (is, none) = (tt, subst (IsPrefixOf whole) (sym none) (prefix-none whole))
 
 -- where no line has ended the reading, none was to
 pub going-heard : (course : Course) (heard : Heard) → StandsAt course heard → is_some course.gathered.refusal ≡ false → heard.refusal ≡ None
 going-heard course heard s going = sym s.gathers.refusal ∙ none-from course.gathered.refusal going
 
 -- a line was gathered that tells no batch line
-pub other-stands : (old new : Course) (how : BadLines) (line : TextLine) → line ≢ said.Batch → old.gathered.refusal ≡ None → new.kept ≡ old.kept
-    → new.ended ≡ old.ended
+pub other-stands : (old new : Course) (how : BadLines) (line : TextLine) → line ≢ said.Batch → old.gathered.refusal ≡ None
+    → ((told : Told) → KeepsAccount old.kept old.ended told → KeepsAccount new.kept new.ended told)
     → (heard : Heard) → StandsAt old heard → Gathers new.gathered (hear_told how heard line) → StandsAt new (hear_told how heard line)
-other-stands old new how line other going kept ended heard s gathers =
+other-stands old new how line other going keeps heard s gathers =
     let none : heard.refusal ≡ None = sym s.gathers.refusal ∙ going in
     record {
       gathers = gathers;
-      keeps = λ _. subst (λ (o : Option Kept). KeepsAccount o new.ended (hear_told how heard line).told) (sym kept)
-          (subst (λ (n : ℕ). KeepsAccount old.kept n (hear_told how heard line).told) (sym ended)
-          (other-keeps old.kept old.ended how heard line none other (s.keeps none)));
+      keeps = λ _. keeps (hear_told how heard line).told (other-keeps old.kept old.ended how heard line none other (s.keeps none));
     }
 
 -- a question tells no batch line
@@ -143,11 +144,12 @@ no-batch_line told question = elim (is_some told.last) as (λ (b : Bool). cond b
 ]
 
 -- a question was gathered
-pub asked-stands : (old new : Course) (how : BadLines) (question : Question) → old.gathered.refusal ≡ None → new.kept ≡ old.kept → new.ended ≡ old.ended
+pub asked-stands : (old new : Course) (how : BadLines) (question : Question) → old.gathered.refusal ≡ None
+    → ((told : Told) → KeepsAccount old.kept old.ended told → KeepsAccount new.kept new.ended told)
     → ((heard : Heard) → Gathers old.gathered heard → Gathers new.gathered (hear how heard (Asks question)))
     → (heard : Heard) → StandsAt old heard → StandsAt new (hear how heard (Asks question))
-asked-stands old new how question going kept ended gathers heard s =
-    other-stands old new how (told_by heard.told (Asks question)) (no-batch_line heard.told question) going kept ended heard s (gathers heard s.gathers)
+asked-stands old new how question going keeps gathers heard s =
+    other-stands old new how (told_by heard.told (Asks question)) (no-batch_line heard.told question) going keeps heard s (gathers heard s.gathers)
 
 -- one line more was read of several
 pub read-more : (how : BadLines) (heard : Heard) (done : List StreamLine) (line : StreamLine)
@@ -156,7 +158,7 @@ read-more how heard done line = hear-append how heard done (line ∷ [])
 
 module _ (options : WatchOptions) where
   -- a line that tells no batch line is answered nothing
-  other-answer : (dropped : Option Refusal) (told : Told) (line : TextLine) → line ≢ said.Batch → told_answer options dropped told line ≡ []
+  other-answer : (dropped : Option Refusal) (told : Told) (line : TextLine) → line ≢ said.Batch → told_facts options dropped told line ≡ []
   other-answer dropped told said.Nothing other = refl
   other-answer dropped told (said.Edge a b) other = refl
   other-answer dropped told said.Batch other = absurd (other refl)
@@ -165,37 +167,45 @@ module _ (options : WatchOptions) where
 
   -- so it is behind others
   pub other-behind : (heard : Heard) (line : TextLine) → line ≢ said.Batch → answer_behind options heard (Tells line) ≡ []
-  other-behind heard line other = elim (is_some heard.refusal) as (λ (b : Bool). cond b [] (told_answer options heard.dropped heard.told line) ≡ []) [
-    | true ↦ refl
-    | false ↦ other-answer heard.dropped heard.told line other
-  ]
+  other-behind heard line other =
+      elim (is_some heard.refusal) as (λ (b : Bool). told_in options (cond b [] (told_facts options heard.dropped heard.told line)) ≡ []) [
+        | true ↦ refl
+        | false ↦ ap (told_in options) (other-answer heard.dropped heard.told line other)
+      ]
 
   -- behind a line that is refused none is answered
-  refused-behind : (heard : Heard) (line : StreamLine) → is_some heard.refusal ≡ true → answer_behind options heard line ≡ []
-  refused-behind heard line some = ap (λ (b : Bool). cond b [] (line_answer options heard.dropped heard.told line)) some
+  refused-behind : (heard : Heard) (line : StreamLine) → is_some heard.refusal ≡ true → answer_facts options heard line ≡ []
+  refused-behind heard line some = ap (λ (b : Bool). cond b [] (line_facts options heard.dropped heard.told line)) some
 
   -- a course of which a line is refused answers none
   pub refused-put : (course : Course) (heard : Heard) (line : StreamLine) → StandsAt course heard → is_some course.gathered.refusal ≡ true
       → answer_behind options heard line ≡ []
-  refused-put course heard line s some = refused-behind heard line (ap is_some (sym s.gathers.refusal) ∙ some)
+  refused-put course heard line s some = ap (told_in options) (refused-behind heard line (ap is_some (sym s.gathers.refusal) ∙ some))
 
   -- where no line was refused, a batch line is answered the text of what was open
   pub batch-answer : (heard : Heard) → heard.refusal ≡ None → answer_behind options heard (Tells said.Batch) ≡ ending_text options heard.dropped heard.told
-  batch-answer heard none = ap (λ (r : Option Refusal). cond (is_some r) [] (ending_text options heard.dropped heard.told)) none
+  batch-answer heard none = ap (λ (r : Option Refusal). told_in options (cond (is_some r) [] (ending_facts options heard.dropped heard.told))) none
 
   -- where no line was refused, a question is answered
   pub question-behind : (heard : Heard) (question : Question) → heard.refusal ≡ None
-      → answer_behind options heard (Asks question) ≡ question_answer heard.told question
-  question-behind heard question none = ap (λ (r : Option Refusal). cond (is_some r) [] (question_answer heard.told question)) none
+      → answer_behind options heard (Asks question) ≡ question_answer options heard.told question
+  question-behind heard question none = ap (λ (r : Option Refusal). told_in options (cond (is_some r) [] (question_facts heard.told question))) none
+
+  -- what is told of lines, and of others behind them
+  facts-append : (heard : Heard) (xs ys : List StreamLine)
+      → answers_facts options heard (xs ++ ys) ≡ answers_facts options heard xs ++ answers_facts options (hear_all options.bad_lines heard xs) ys
+  facts-append heard [] ys = refl
+  facts-append heard (x ∷ xs) ys =
+      ap (λ (t : List Fact). answer_facts options heard x ++ t) (facts-append (hear options.bad_lines heard x) xs ys)
+      ∙ sym (append_assoc (answer_facts options heard x) (answers_facts options (hear options.bad_lines heard x) xs)
+      (answers_facts options (hear_all options.bad_lines (hear options.bad_lines heard x) xs) ys))
 
   -- what lines are answered, and others behind them
   pub answers-append : (heard : Heard) (xs ys : List StreamLine)
       → answers_behind options heard (xs ++ ys) ≡ answers_behind options heard xs ++ answers_behind options (hear_all options.bad_lines heard xs) ys
-  answers-append heard [] ys = refl
-  answers-append heard (x ∷ xs) ys =
-      ap (λ (t : List ℕ). answer_behind options heard x ++ t) (answers-append (hear options.bad_lines heard x) xs ys)
-      ∙ sym (append_assoc (answer_behind options heard x) (answers_behind options (hear options.bad_lines heard x) xs)
-      (answers_behind options (hear_all options.bad_lines (hear options.bad_lines heard x) xs) ys))
+  answers-append heard xs ys =
+      ap (told_in options) (facts-append heard xs ys)
+      ∙ texts-append options.format (answers_facts options heard xs) (answers_facts options (hear_all options.bad_lines heard xs) ys)
 
   -- what lines are answered with one more
   pub answers-more : (heard : Heard) (done : List StreamLine) (line : StreamLine)
@@ -203,14 +213,19 @@ module _ (options : WatchOptions) where
       ≡ answers_behind options heard done ++ answer_behind options (hear_all options.bad_lines heard done) line
   answers-more heard done line =
       answers-append heard done (line ∷ [])
-      ∙ ap (λ (t : List ℕ). answers_behind options heard done ++ t) (append-nil (answer_behind options (hear_all options.bad_lines heard done) line))
+      ∙ ap (λ (t : List Fact). answers_behind options heard done ++ told_in options t)
+      (append-nil (answer_facts options (hear_all options.bad_lines heard done) line))
 
-  -- behind a line that is refused nothing is answered
+  -- behind a line that is refused nothing is told
+  facts-none : (heard : Heard) (lines : List StreamLine) → is_some heard.refusal ≡ true → answers_facts options heard lines ≡ []
+  facts-none heard [] some = refl
+  facts-none heard (line ∷ lines) some =
+      ap₂ (λ (a b : List Fact). a ++ b) (refused-behind heard line some)
+      (ap (λ (h : Heard). answers_facts options h lines) (hear-refused options.bad_lines heard line some) ∙ facts-none heard lines some)
+
+  -- so nothing is answered
   pub answers-none : (heard : Heard) (lines : List StreamLine) → is_some heard.refusal ≡ true → answers_behind options heard lines ≡ []
-  answers-none heard [] some = refl
-  answers-none heard (line ∷ lines) some =
-      ap₂ (λ (a b : List ℕ). a ++ b) (refused-behind heard line some)
-      (ap (λ (h : Heard). answers_behind options h lines) (hear-refused options.bad_lines heard line some) ∙ answers-none heard lines some)
+  answers-none heard lines some = ap (told_in options) (facts-none heard lines some)
 
   -- what was put for some lines begins what all are answered, also where memory ended at the next one
   pub stopped-prefix : (heard : Heard) (done rest : List StreamLine) (line : StreamLine) (put more : List ℕ) → put ≡ answers_behind options heard done
@@ -221,6 +236,8 @@ module _ (options : WatchOptions) where
       let behind : List ℕ = answers_behind options (hear options.bad_lines now line) rest in (
         left ++ behind,
         answers-append heard done (line ∷ rest)
-            ∙ ap₂ (λ (a b : List ℕ). a ++ (b ++ behind)) (sym is) begins
+            ∙ ap₂ (λ (a b : List ℕ). a ++ b) (sym is)
+            (texts-append options.format (answer_facts options now line) (answers_facts options (hear options.bad_lines now line) rest))
+            ∙ ap (λ (b : List ℕ). put ++ (b ++ behind)) begins
             ∙ ap (λ (t : List ℕ). put ++ t) (append_assoc more left behind) ∙ sym (append_assoc put more (left ++ behind)),
       )

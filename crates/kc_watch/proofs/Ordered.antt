@@ -1,5 +1,5 @@
 -- What questions for the order are answered is of one order that certifies the core numbers.
-use Rattle.std.proofs.Common.{◌≡◌, ◌≢◌, ◌<◌, ℕ, Bool, true, cond, List, length, get_or, sym, ap, ap₂, ◌∙◌, arith, Option, Some, codes}
+use Rattle.std.proofs.Common.{◌≡◌, ◌≢◌, ◌<◌, ℕ, Bool, true, cond, List, length, get_or, sym, ap, ap₂, ◌∙◌, arith, Option, Some}
 use Rattle.std.specs.Prelude.{AllPairs}
 use Rattle.std.proofs.lemmas.Bool.{ne_eqb}
 use Rattle.kc_graph.specs.Certificate.{Certifies}
@@ -7,7 +7,10 @@ use Rattle.kc_tally.specs.Keys.{stands_before}
 use Rattle.kc_tally.proofs.Keys.{stands_before-once}
 use Rattle.kc_tally.proofs.Ordering.{named-order}
 use Rattle.kc_text.specs.declared.change.ChangeLine.{ChangeLine}
-use Rattle.kc_answers.specs.Answers.{order_field, order_line, order_word}
+use Rattle.kc_answers.specs.Answers.{standing_by, standing_of}
+use Rattle.kc_reply.specs.Facts as fact
+use Rattle.kc_reply.specs.declared.standing.Standing.{Standing}
+use Rattle.kc_reply.specs.declared.standing.Standing.TheVariants.{Before, After, Same}
 use Rattle.kc_stream.specs.Ids.{number_of}
 use Rattle.kc_watch.specs.Accounts.{Account, account_of, core_numbers_of, layers_of}
 use Rattle.kc_watch.specs.Text.{IsAnsweredBefore}
@@ -16,23 +19,22 @@ use Rattle.kc_watch.proofs.Changing.{number-at}
 
 module _ (ids core layer : List ℕ) (v w : ℕ) (before : stands_before core layer ids v w ≡ true) (apart : v ≢ w) where
   -- who stands before another one is told so
-  word-before : order_word ids core layer v w ≡ codes " before"
-  word-before =
-      ap₂ (λ (one first : Bool). cond one (codes " same") (cond first (codes " before") (codes " after"))) (ne_eqb v w apart) before
+  told-before : standing_of ids core layer v w ≡ Before
+  told-before = ap₂ (λ (one first : Bool). cond one Same (cond first Before After)) (ne_eqb v w apart) before
 
   -- and the other one is told the other
-  word-after : order_word ids core layer w v ≡ codes " after"
-  word-after =
-      ap₂ (λ (one first : Bool). cond one (codes " same") (cond first (codes " before") (codes " after"))) (ne_eqb w v (λ e. apart (sym e)))
+  told-after : standing_of ids core layer w v ≡ After
+  told-after =
+      ap₂ (λ (one first : Bool). cond one Same (cond first Before After)) (ne_eqb w v (λ e. apart (sym e)))
       (stands_before-once core layer ids v w before)
 
   -- so are their ids
   ids-answered : (a b : ℕ) → number_of ids a ≡ Some v → number_of ids b ≡ Some w
-      → (order_field ids core layer (number_of ids a) (number_of ids b) ≡ codes " before")
-      × (order_field ids core layer (number_of ids b) (number_of ids a) ≡ codes " after")
+      → (standing_by ids core layer (number_of ids a) (number_of ids b) ≡ Some Before)
+      × (standing_by ids core layer (number_of ids b) (number_of ids a) ≡ Some After)
   ids-answered a b of-a of-b = (
-    ap₂ (λ (m n : Option ℕ). order_field ids core layer m n) of-a of-b ∙ word-before,
-    ap₂ (λ (m n : Option ℕ). order_field ids core layer m n) of-b of-a ∙ word-after,
+    ap₂ (λ (m n : Option ℕ). standing_by ids core layer m n) of-a of-b ∙ ap (λ (s : Standing). Some s) told-before,
+    ap₂ (λ (m n : Option ℕ). standing_by ids core layer m n) of-b of-a ∙ ap (λ (s : Standing). Some s) told-after,
   )
 
 -- Behind batches there is such an order: by core number, layer and id.
@@ -54,7 +56,7 @@ answered-order edges batches =
           let w : ℕ = get_or order j d in
           let lv : v < length ids = omega (arith, certifies.enumerates.below i d (omega (arith, lt, l)), size) in
           let lw : w < length ids = omega (arith, certifies.enumerates.below j d l, size) in
-          let words = ids-answered ids core layer v w (stands i j d lt l) (certifies.enumerates.distinct i j d lt l) (get_or ids v 0) (get_or ids w 0)
+          let told = ids-answered ids core layer v w (stands i j d lt l) (certifies.enumerates.distinct i j d lt l) (get_or ids v 0) (get_or ids w 0)
           (number-at ids v (account-once edges batches) lv) (number-at ids w (account-once edges batches) lw) in
-          (ap (order_line (get_or ids v 0) (get_or ids w 0)) words.0, ap (order_line (get_or ids w 0) (get_or ids v 0)) words.1),
+          (ap (fact.Order (get_or ids v 0) (get_or ids w 0)) told.0, ap (fact.Order (get_or ids w 0) (get_or ids v 0)) told.1),
     )

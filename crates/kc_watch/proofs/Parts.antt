@@ -1,5 +1,5 @@
 -- A part of a stream that ends: the start, or a batch.
-use Rattle.std.proofs.Common.{◌≡◌, ◌≤◌, arith, ℕ, Bool, true, cond, List, [], length, take, refl, sym, ap, ap₂, ◌∙◌, subst, Option, Some, None}
+use Rattle.std.proofs.Common.{◌≡◌, ◌≤◌, arith, ℕ, Bool, true, cond, List, [], ◌∷◌, append-nil, length, take, refl, sym, ap, ap₂, ◌∙◌, subst, Option, Some, None}
 use Rattle.std.specs.Prelude.{is_some, map, unwrap_or}
 use Rattle.std.specs.FinSet as set
 use Rattle.std.proofs.Math.Seq.{take-append_seam}
@@ -13,17 +13,29 @@ use Rattle.kc_text.specs.Inputs.{AreAmong, AreUpdates, EdgeBatch, numbered, star
 use Rattle.kc_text.specs.Meaning.{Told, batches, ends, ends_of, with_line}
 use Rattle.kc_answers.specs.Answers.{answer_to}
 use Rattle.kc_stream.specs.Gathering.{Holds}
-use Rattle.kc_stream.specs.Ids.{with_names}
+use Rattle.kc_stream.specs.Ids.{ids_of, with_names}
 use Rattle.kc_stream.specs.declared.gathered.Gathered.{Gathered}
 use Rattle.kc_stream.specs.declared.question.Question.{Question}
 use Rattle.kc_stream.proofs.Holding.{some-from}
 use Rattle.kc_watch.specs.Accounts.{Account, account_of, batch_behind, core_numbers_of, entered, graph_with, layers_of, one_ended, with_batch}
 use Rattle.kc_watch.specs.Endings.{IsAccountBefore}
-use Rattle.kc_watch.specs.Text.{answer_in, batch_text, open_text, part_text, question_answer, start_line}
+use Rattle.kc_reply.specs.Facts as fact
+use Rattle.kc_reply.specs.Texts.{fact_text}
+use Rattle.kc_watch.specs.Text.{answer_in, batch_text, open_text, part_facts, question_answer, start_line, told_in}
 use Rattle.kc_watch.specs.Watching.{KeepsAccount, graph_gathered}
 use Rattle.kc_watch.specs.declared.kept.Kept.{Kept}
 use Rattle.kc_watch.specs.declared.options.WatchOptions.{WatchOptions}
 use Rattle.kc_watch.proofs.Accounts.{account-batch, account-size, batch-made, ids-are, ids-grown, ids-once, no-batches, nothing-changes, vertices-few}
+
+-- of the ids that were named, those that were known behind the batches that have ended
+pub named-known : (ids : List ℕ) (told : Told) (kept : Kept) (ended : ℕ) → ids ≡ ids_of told → KeepsAccount (Some kept) ended told
+    → take kept.keeper.graph.size ids ≡ (account_of told.edges told.earlier).ids
+named-known ids told kept ended named (some, graph, count) =
+    let (more, is) = ids-grown told some in
+    let account : Account = account_of told.edges told.earlier in
+    let size : kept.keeper.graph.size ≡ length account.ids =
+    ap (λ (g : SimpleGraph). g.size) graph ∙ account-size told.edges told.earlier in
+    ap₂ (λ (n : ℕ) (l : List ℕ). take n l) size (named ∙ is) ∙ take-append_seam account.ids more
 
 module _ (gathered : Gathered) (told : Told) (h : Holds gathered told) where
   -- the graph of the start is the one that was gathered
@@ -50,9 +62,12 @@ module _ (gathered : Gathered) (told : Told) (h : Holds gathered told) where
   )
 
   -- its line is the text of the start
-  pub start-text : (options : WatchOptions) (ended : ℕ) → KeepsAccount None ended told → open_text options told ≡ start_line (graph_gathered gathered)
+  pub start-text : (options : WatchOptions) (ended : ℕ) → KeepsAccount None ended told
+      → open_text options told ≡ fact_text options.format (fact.Summary (start_line (graph_gathered gathered)))
   start-text options ended (last, count) =
-      ap (λ (l : Option (List ChangeLine)). part_text options told.edges told.earlier l) last ∙ ap start_line (start-graph last)
+      let text : SimpleGraph → List ℕ = λ g. fact_text options.format (fact.Summary (start_line g)) in
+      ap (λ (l : Option (List ChangeLine)). told_in options (part_facts options told.edges told.earlier l)) last
+      ∙ append-nil (text (account_of told.edges []).graph) ∙ ap text (start-graph last)
 
   -- what is made of the batch that is open and of the account behind it
   batch-parts : {X : Type 0} (make : EdgeBatch → Account → X) (cs : List ChangeLine) → told.last ≡ Some cs
@@ -101,7 +116,7 @@ module _ (gathered : Gathered) (told : Told) (h : Holds gathered told) where
       (entered (account_of told.edges told.earlier) gathered.ids (last_batch gathered.updates.items))
   batch-open options old ended (some, graph, count) =
       let (cs, last) = some-from told.last some in
-      ap (λ (l : Option (List ChangeLine)). part_text options told.edges told.earlier l) last
+      ap (λ (l : Option (List ChangeLine)). told_in options (part_facts options told.edges told.earlier l)) last
       ∙ batch-parts (batch_text options (account_of told.edges told.earlier)) cs last
 
   -- there are no fewer ids than vertices behind the batches that have ended
@@ -112,25 +127,29 @@ module _ (gathered : Gathered) (told : Told) (h : Holds gathered told) where
   -- the ids that were known behind the batches that have ended
   known-ids : (kept : Kept) (ended : ℕ) → KeepsAccount (Some kept) ended told
       → take kept.keeper.graph.size gathered.ids ≡ (account_of told.edges told.earlier).ids
-  known-ids kept ended (some, graph, count) =
-      let (more, is) = ids-grown told some in
-      let account : Account = account_of told.edges told.earlier in
-      let size : kept.keeper.graph.size ≡ length account.ids =
-      ap (λ (g : SimpleGraph). g.size) graph ∙ account-size told.edges told.earlier in
-      ap₂ (λ (n : ℕ) (l : List ℕ). take n l) size (h.ids ∙ is) ∙ take-append_seam account.ids more
+  known-ids kept ended k = named-known gathered.ids told kept ended h.ids k
 
   -- a question is answered of them, and of the graph that is kept
-  pub question-kept : (kept : Kept) (ended : ℕ) (question : Question) → KeepsAccount (Some kept) ended told
-      → answer_to question (take kept.keeper.graph.size gathered.ids) (core_numbers_of kept.keeper.graph) (layers_of kept.keeper.graph)
-      ≡ question_answer told question
-  question-kept kept ended question k =
-      ap₂ (λ (l : List ℕ) (g : SimpleGraph). answer_to question l (core_numbers_of g) (layers_of g)) (known-ids kept ended k) k.1
-      ∙ ap (λ (b : Bool). cond b (answer_in (account_of told.edges told.earlier) question) []) (sym k.0)
+  pub question-kept : (options : WatchOptions) (kept : Kept) (ended : ℕ) (question : Question) → KeepsAccount (Some kept) ended told
+      → fact_text options.format
+      (answer_to question (take kept.keeper.graph.size gathered.ids) (core_numbers_of kept.keeper.graph) (layers_of kept.keeper.graph))
+      ≡ question_answer options told question
+  question-kept options kept ended question k =
+      let account : Account = account_of told.edges told.earlier in
+      ap₂ (λ (l : List ℕ) (g : SimpleGraph). fact_text options.format (answer_to question l (core_numbers_of g) (layers_of g))) (known-ids kept ended k) k.1
+      ∙ sym (append-nil (fact_text options.format (answer_in account question)))
+      ∙ ap (λ (b : Bool). told_in options (cond b (answer_in account question ∷ []) [])) (sym k.0)
 
   -- before any batch line it is answered nothing
-  pub question-none : (ended : ℕ) (question : Question) → KeepsAccount None ended told → question_answer told question ≡ []
-  question-none ended question k =
-      ap (λ (l : Option (List ChangeLine)). cond (is_some l) (answer_in (account_of told.edges told.earlier) question) []) k.0
+  pub question-none : (options : WatchOptions) (ended : ℕ) (question : Question) → KeepsAccount None ended told
+      → question_answer options told question ≡ []
+  question-none options ended question k =
+      ap (λ (l : Option (List ChangeLine)). told_in options (cond (is_some l) (answer_in (account_of told.edges told.earlier) question ∷ []) [])) k.0
+
+-- where the graph is kept, so is the account
+pub same-keeps : (old new : Kept) (ended : ℕ) → new.keeper.graph ≡ old.keeper.graph → (told : Told) → KeepsAccount (Some old) ended told
+    → KeepsAccount (Some new) ended told
+same-keeps old new ended same told (some, graph, count) = (some, same ∙ graph, count)
 
 -- a batch that is dropped has ended: the graph is kept as it was, and the batch is counted
 pub dropped-keeps : (told : Told) (kept : Option Kept) (ended number : ℕ) → told.last ≡ Some [] → number ≡ one_ended ended → KeepsAccount kept ended told

@@ -1,5 +1,5 @@
 //! The updates of a batch are made, with the ids that came in it.
-ghost use Rattle.std.specs.Prelude.{◌≡◌, ◌≤◌, ◌<◌, ℕ, All, IfOk, OnOk, slice_index};
+ghost use Rattle.std.specs.Prelude.{◌≡◌, ◌≤◌, ℕ, All, IfOk, OnErr, OnOk};
 ghost use Rattle.kc_graph.specs.Growing.{with_vertices};
 ghost use Rattle.kc_text.specs.Deciding.{last_batch};
 ghost use Rattle.kc_words.specs.declared.layout.TheConstants.{VERTICES};
@@ -8,12 +8,18 @@ ghost use Rattle.kc_keeper.specs.Cores.{AreCoreChanges};
 ghost use Rattle.kc_stream.specs.Gathering.{IsUpdateBelow};
 ghost use Rattle.kc_watch.specs.Accounts.{core_numbers_of};
 ghost use Rattle.kc_watch.specs.Effects.{AreEffects};
+ghost use Rattle.kc_watch.specs.Room.{AreEdgesBelow};
 
 use crate::NoMemory;
 use kc_batch_effects::decide;
 use kc_graph::Update;
 use kc_keeper::{ApplyFault, Changes, GrowFault, Keeper};
+use kc_words::VERTICES;
 use std::alloc::Global;
+
+/// A keeper that grows has a spare vertex for so many that it needs: it grows again only once there are a quarter more. Growing makes nearly
+/// all anew, in time linear in the vertices, and so costs each new id a constant number of steps over many batches.
+const VERTICES_FOR_A_SPARE_ONE: u32 = 4;
 
 /// What the updates of a batch did, and how many of its changes were overruled.
 #[derive(Clone, Copy)]
@@ -24,22 +30,42 @@ pub(crate) struct Effects {
     pub(crate) overruled: u32,
 }
 
-/// Adds vertices until there are so many in all.
-pub(crate) fn grow_to(alloc: Global, keeper: &mut Keeper, vertices: u32) -> Result<(), NoMemory>
+/// How many vertices a keeper has that grows for so many: some spare ones too, if no more than it may have.
+fn with_spare(vertices: u32) -> u32
+    requires few { vertices ≤ VERTICES }
+    ensures more { vertices ≤ result }
+    ensures few { result ≤ VERTICES }
+{
+    (vertices + vertices / VERTICES_FOR_A_SPARE_ONE).min(VERTICES)
+}
+
+/// Gives a keeper so many vertices, as many as it has or more.
+fn grow(alloc: Global, keeper: &mut Keeper, vertices: u32) -> Result<(), NoMemory>
     requires more { keeper.old.graph.size ≤ vertices }
     requires few { vertices ≤ VERTICES }
     ensures graph { OnOk result (keeper.new.graph ≡ with_vertices vertices keeper.old.graph) }
-    ensures numbers { OnOk result ((v : ℕ) → v < keeper.old.graph.size
-        → slice_index (core_numbers_of keeper.new.graph) v ≡ slice_index (core_numbers_of keeper.old.graph) v) }
+    ensures same { OnErr result (keeper.new.graph ≡ keeper.old.graph) }
 {
-    keeper.recall_certified();
-    if keeper.vertices() == vertices {
-        return Ok(());
-    }
     match keeper.grow(alloc, vertices) {
         Ok(()) => Ok(()),
         Err(GrowFault::NoMemory) => Err(NoMemory),
         Err(_) => unreachable!(),
+    }
+}
+
+/// Sees to it that a keeper has so many vertices or more. One that has to grow gets spare ones too, unless there is no memory for them.
+pub(crate) fn make_room(alloc: Global, keeper: &mut Keeper, vertices: u32) -> Result<(), NoMemory>
+    requires { vertices ≤ VERTICES }
+    ensures room { OnOk result (vertices ≤ keeper.new.graph.size) }
+    ensures graph { keeper.new.graph ≡ with_vertices keeper.new.graph.size keeper.old.graph }
+    ensures more { keeper.old.graph.size ≤ keeper.new.graph.size }
+{
+    if vertices <= keeper.vertices() {
+        return Ok(());
+    }
+    match grow(alloc, keeper, with_spare(vertices)) {
+        Ok(()) => Ok(()),
+        Err(_) => grow(alloc, keeper, vertices),
     }
 }
 
@@ -52,6 +78,9 @@ pub(crate) fn make(
     changes: &mut Changes,
 ) -> Result<Effects, NoMemory>
     requires { All (IsUpdateBelow keeper.old.graph.size) updates.now }
+    ensures size { keeper.new.graph.size ≡ keeper.old.graph.size }
+    ensures edges { (vertices : ℕ) → All (IsUpdateBelow vertices) updates.now → AreEdgesBelow vertices keeper.old.graph.edges
+        → AreEdgesBelow vertices keeper.new.graph.edges }
     ensures graph { OnOk result (keeper.new.graph ≡ graph_after_batch keeper.old.graph (last_batch updates.now).updates) }
     ensures effects { IfOk result (λ effects. AreEffects keeper.old.graph (last_batch updates.now) effects) }
     ensures cores { OnOk result (AreCoreChanges (core_numbers_of keeper.old.graph) (core_numbers_of keeper.new.graph) changes.new.cores.items) }

@@ -1,5 +1,5 @@
 //! What is kept of a stream from line to line: what was gathered, and the keeper of the graph behind the batches that have ended.
-ghost use Rattle.std.specs.Prelude.{◌≡◌, ◌++◌, [], None, Some, List, ℕ, OnErr, OnOk};
+ghost use Rattle.std.specs.Prelude.{◌≡◌, ◌++◌, [], None, Some, IfOk, List, ℕ, OnErr, OnOk};
 ghost use Rattle.kc_dialogue.specs.Replies.{IsPrefixOf};
 ghost use Rattle.kc_text.specs.Meaning.{Told, with_line};
 ghost use Rattle.kc_text.specs.declared.line.TextLine.TheVariants as said;
@@ -7,7 +7,10 @@ ghost use Rattle.kc_stream.specs.Asking.{stream_lines};
 ghost use Rattle.kc_stream.specs.Gathering.{Holds};
 ghost use Rattle.kc_stream.specs.Hearing.{Heard, hear, hear_all, nothing_heard};
 ghost use Rattle.kc_stream.specs.declared.stream_line.StreamLine.TheVariants as says;
-ghost use Rattle.kc_watch.specs.Text.{answer_behind, answers_behind, ending_text, open_text, question_answer, refused_line};
+ghost use Rattle.kc_reply.specs.Texts.{fact_text};
+ghost use Rattle.kc_stream.specs.Ids.{ids_of};
+ghost use Rattle.kc_watch.specs.States.{IsStateFor, account_told};
+ghost use Rattle.kc_watch.specs.Text.{answer_behind, answers_behind, ending_text, open_text, question_answer, refused_fact};
 ghost use Rattle.kc_watch.specs.Accounts.{account_of, one_ended};
 ghost use Rattle.kc_watch.specs.Watching.{KeepsAccount, StandsAt};
 ghost use Rattle.kc_watch.specs.declared.options.WatchOptions.{WatchOptions};
@@ -15,8 +18,9 @@ ghost use Rattle.kc_watch.specs.declared.options.WatchOptions.{WatchOptions};
 use crate::NoMemory;
 use crate::kept::Kept;
 use crate::options::WatchOptions;
-use crate::refused::put_refused;
 use crate::start::end_start;
+use crate::state::WatchedState;
+use kc_reply::{ReplyFormat, ReplyLine, put_reply_line};
 use kc_stream::{Gathered, Question, StreamLine, read_stream_line};
 use kc_text::{Refusal, TextLine, cut_line};
 use std::alloc::Global;
@@ -42,6 +46,13 @@ impl Course {
         }
     }
 
+    /// How many lines were read.
+    pub(crate) fn lines(&self) -> u64
+        ensures { result ≡ self.now.gathered.lines }
+    {
+        self.gathered.lines()
+    }
+
     /// The refused line that ends the reading.
     pub(crate) fn refusal(&self) -> Option<Refusal>
         ensures { result ≡ self.now.gathered.refusal }
@@ -54,6 +65,25 @@ impl Course {
         ensures { result ≡ self.now.gathered.refused_batches }
     {
         self.gathered.refused_batches()
+    }
+
+    /// How many batches have ended.
+    pub(crate) fn ended_batches(&self) -> u32
+        ensures { result ≡ self.now.ended }
+    {
+        self.ended
+    }
+
+    /// What is kept behind the batches that have ended; none before any batch line.
+    pub(crate) fn state(&self, alloc: Global) -> Result<Option<WatchedState>, NoMemory>
+        ensures { IfOk result (λ state. (told : Told) → self.now.gathered.ids ≡ ids_of told
+            → KeepsAccount self.now.kept self.now.ended told → IsStateFor (account_told told) state) }
+    {
+        let Some(kept) = &self.kept else {
+            return Ok(None);
+        };
+        let state = kept.state(alloc, self.ended, self.gathered.ids().names())?;
+        Ok(Some(state))
     }
 
     /// Ends what is open, the start or a batch, and puts its text. Where there is no memory, nothing is put.
@@ -72,7 +102,7 @@ impl Course {
             → OnOk result (put ≡ open_text options told) × OnErr result (IsPrefixOf (open_text options told) put)) }
     {
         let Some(kept) = &mut self.kept else {
-            let keeper = end_start(alloc, &self.gathered, out)?;
+            let keeper = end_start(alloc, &self.gathered, options.format, out)?;
             self.kept = Some(Kept::new(alloc, keeper));
             return Ok(());
         };
@@ -85,7 +115,7 @@ impl Course {
     /// Ends a batch that is dropped, and puts the line about it. Where there is no memory, nothing is put.
     fn end_dropped(
         &mut self,
-        alloc: Global,
+        format: ReplyFormat,
         refusal: Refusal,
         out: &mut Vec<u8>,
     ) -> Result<(), NoMemory>
@@ -94,11 +124,11 @@ impl Course {
             → KeepsAccount self.new.kept self.new.ended (with_line told said.Batch)) }
         ensures put { (put : List ℕ) × (out.new.items ≡ out.old.items ++ put)
             × ((told : Told) → told.last ≡ Some [] → KeepsAccount self.old.kept self.old.ended told
-            → OnOk result (put ≡ refused_line (one_ended (account_of told.edges told.earlier).ended) refusal) × OnErr result (put ≡ [])) }
+            → OnOk result (put ≡ fact_text format (refused_fact told refusal)) × OnErr result (put ≡ [])) }
     {
-        let number = self.ended.saturating_add(1);
-        put_refused(alloc, number, refusal, out)?;
-        self.ended = number;
+        let batch = self.ended.saturating_add(1);
+        put_reply_line(out, format, ReplyLine::Refused { batch, refusal })?;
+        self.ended = batch;
         Ok(())
     }
 
@@ -120,7 +150,7 @@ impl Course {
     {
         match self.gathered.dropped() {
             None => self.end_part(alloc, options, out),
-            Some(refusal) => self.end_dropped(alloc, refusal, out),
+            Some(refusal) => self.end_dropped(options.format, refusal, out),
         }
     }
 
@@ -167,14 +197,22 @@ impl Course {
 
     /// Puts the line that answers a question about what has ended, where there was a batch line, and else nothing. Where there is no memory,
     /// nothing is put.
-    fn answer(&self, alloc: Global, question: Question, out: &mut Vec<u8>) -> Result<(), NoMemory>
-        requires { (told : Told) × Holds self.now.gathered told × KeepsAccount self.now.kept self.now.ended told }
-        ensures { (put : List ℕ) × (out.new.items ≡ out.old.items ++ put)
-            × ((told : Told) → Holds self.now.gathered told → KeepsAccount self.now.kept self.now.ended told
-            → OnOk result (put ≡ question_answer told question) × OnErr result (put ≡ [])) }
+    fn answer(
+        &mut self,
+        alloc: Global,
+        options: WatchOptions,
+        question: Question,
+        out: &mut Vec<u8>,
+    ) -> Result<(), NoMemory>
+        requires { (told : Told) × Holds self.old.gathered told × KeepsAccount self.old.kept self.old.ended told }
+        ensures gathered { self.new.gathered ≡ self.old.gathered }
+        ensures keeps { (told : Told) → KeepsAccount self.old.kept self.old.ended told → KeepsAccount self.new.kept self.new.ended told }
+        ensures put { (put : List ℕ) × (out.new.items ≡ out.old.items ++ put)
+            × ((told : Told) → Holds self.old.gathered told → KeepsAccount self.old.kept self.old.ended told
+            → OnOk result (put ≡ question_answer options told question) × OnErr result (put ≡ [])) }
     {
-        if let Some(kept) = &self.kept {
-            kept.answer(alloc, self.gathered.ids(), question, out)?;
+        if let Some(kept) = &mut self.kept {
+            kept.answer(alloc, self.gathered.ids(), question, options.format, out)?;
         }
         Ok(())
     }
@@ -194,7 +232,7 @@ impl Course {
             → OnOk result (put ≡ answer_behind options heard (says.Asks question))
             × OnErr result (IsPrefixOf (answer_behind options heard (says.Asks question)) put)) }
     {
-        self.answer(alloc, question, out)?;
+        self.answer(alloc, options, question, out)?;
         self.gathered
             .take(alloc, options.bad_lines, StreamLine::Asks(question))
     }

@@ -1,12 +1,13 @@
 //! The graph behind the batches that have ended, and what ends one more.
-ghost use Rattle.std.specs.Prelude.{◌≡◌, ◌≤◌, ◌++◌, true, All, IfOk, OnErr, OnOk, length, take};
+ghost use Rattle.std.specs.Prelude.{◌≡◌, ◌≤◌, ◌++◌, ◌∷◌, true, Some, All, IfOk, OnErr, OnOk, length, take};
 ghost use Rattle.std.specs.Io.{StartsWith};
 ghost use Rattle.kc_graph.specs.SimpleGraph.{SimpleGraph};
 ghost use Rattle.kc_text.specs.Deciding.{last_batch};
 ghost use Rattle.kc_text.specs.Inputs.{EdgeBatch};
-ghost use Rattle.kc_report.specs.Lines.{line_text};
+ghost use Rattle.kc_reply.specs.Facts as fact;
+ghost use Rattle.kc_reply.specs.Texts.{fact_text, facts_text};
 ghost use Rattle.kc_answers.specs.Answers.{answer_to, needs_layers};
-ghost use Rattle.kc_changes.specs.Changed.{lines_behind};
+ghost use Rattle.kc_changes.specs.Changed.{facts_behind};
 ghost use Rattle.kc_stream.specs.Gathering.{IsUpdateBelow};
 ghost use Rattle.kc_watch.specs.Accounts.{Account, core_number_in, core_numbers_of, entered, graph_with, layers_of};
 ghost use Rattle.kc_watch.specs.Effects.{AreEffects};
@@ -14,22 +15,24 @@ ghost use Rattle.kc_watch.specs.Endings.{AreMoves, HasEndedBetween, IsAccountBef
 ghost use Rattle.kc_watch.specs.Text.{batch_text, line_about};
 
 use crate::NoMemory;
-use crate::batch::{Effects, grow_to, make};
+use crate::batch::Effects;
 use crate::listing::changes_of;
 use crate::options::WatchOptions;
-use kc_answers::{needs_layers, put_answer};
+use crate::roomy::RoomyKeeper;
+use crate::state::WatchedState;
+use kc_answers::{Numbers, needs_layers, put_answer};
 use kc_changes::put_changes;
 use kc_graph::greatest;
-use kc_keeper::{Changes, Keeper};
-use kc_report::{Line, summary};
+use kc_keeper::Changes;
+use kc_reply::{ReplyFormat, ReplyLine, put_reply_line};
+use kc_report::Line;
 use kc_stream::{Gathered, Ids, Question};
-use kc_tally::layers;
 use std::alloc::Global;
 
 /// The graph behind the batches that have ended, and what the last one changed.
 #[derive(Drop)]
 pub(crate) struct Kept {
-    keeper: Keeper,
+    keeper: RoomyKeeper,
     /// What the last batch changed, whose memory the next one takes.
     changes: Changes,
 }
@@ -41,9 +44,21 @@ struct BatchEnd {
     known: u32,
 }
 
+/// The first so many of some numbers, or all where there are no more.
+fn front(numbers: &[u32], count: u32) -> &[u32]
+    ensures { result.now ≡ take count numbers.now }
+{
+    let count = count as usize;
+    if count < numbers.len() {
+        &numbers[..count]
+    } else {
+        numbers
+    }
+}
+
 impl Kept {
     /// Keeps the graph of the start.
-    pub(crate) fn new(alloc: Global, keeper: Keeper) -> Kept
+    pub(crate) fn new(alloc: Global, keeper: RoomyKeeper) -> Kept
         ensures { result.keeper ≡ keeper }
     {
         Kept {
@@ -62,19 +77,15 @@ impl Kept {
         ensures moves { OnOk result (AreMoves self.old.keeper.graph.size (core_numbers_of self.old.keeper.graph)
             (core_numbers_of self.new.keeper.graph) self.new.changes.cores.items) }
     {
-        grow_to(alloc, &mut self.keeper, gathered.ids().count())?;
-        make(
-            alloc,
-            &mut self.keeper,
-            gathered.updates(),
-            &mut self.changes,
-        )
+        self.keeper.grow_to(alloc, gathered.ids().count())?;
+        self.keeper
+            .make(alloc, gathered.updates(), &mut self.changes)
     }
 
     /// The line of a batch with this number, which did this.
     fn line(&self, number: u32, effects: Effects) -> Line
         ensures { (g : SimpleGraph) (batch : EdgeBatch) → AreEffects g batch effects
-            → line_text result ≡ line_about number g batch self.now.keeper.graph }
+            → result ≡ line_about number g batch self.now.keeper.graph }
     {
         Line::Batch {
             number,
@@ -82,7 +93,7 @@ impl Kept {
             removed: effects.removed,
             kept: effects.kept,
             overruled: effects.overruled,
-            edges: self.keeper.graph().edges(),
+            edges: self.keeper.edges(),
             top: greatest(self.keeper.core_numbers()),
         }
     }
@@ -100,16 +111,22 @@ impl Kept {
         requires size { self.now.keeper.graph.size ≡ length ids.now }
         ensures ok { OnOk result ((before after : Account)
             → HasEndedBetween before after known ids.now (core_numbers_of self.now.keeper.graph) self.now.changes.cores.items
-            → out.new.items ≡ out.old.items ++ lines_behind options.show options.enter (core_number_in before) (core_number_in after) after.ids) }
+            → out.new.items ≡ out.old.items
+            ++ facts_text options.format (facts_behind options.show options.enter (core_number_in before) (core_number_in after) after.ids)) }
         ensures kept { StartsWith out.new.items out.old.items }
     {
         if options.is_brief() {
             return Ok(());
         }
-        self.keeper.recall_certified();
         let core = self.keeper.core_numbers();
         let mut listed = changes_of(alloc, ids, known, core, &self.changes.cores)?;
-        put_changes(out, options.show, options.enter, &mut listed)
+        put_changes(
+            out,
+            options.format,
+            options.show,
+            options.enter,
+            &mut listed,
+        )
     }
 
     /// Puts the line of the last batch, and what is asked for behind it.
@@ -125,11 +142,11 @@ impl Kept {
         requires size { self.now.keeper.graph.size ≡ length ids.now }
         ensures ok { OnOk result ((before after : Account)
             → HasEndedBetween before after end.now.known ids.now (core_numbers_of self.now.keeper.graph) self.now.changes.cores.items
-            → out.new.items ≡ out.old.items ++ (line_text end.now.line
-            ++ lines_behind options.show options.enter (core_number_in before) (core_number_in after) after.ids)) }
+            → out.new.items ≡ out.old.items ++ facts_text options.format (fact.Summary end.now.line
+            ∷ facts_behind options.show options.enter (core_number_in before) (core_number_in after) after.ids)) }
         ensures kept { StartsWith out.new.items out.old.items }
     {
-        summary(out, &end.line)?;
+        put_reply_line(out, options.format, ReplyLine::Summary(end.line))?;
         self.put_behind(alloc, options, end.known, ids, out)
     }
 
@@ -146,8 +163,8 @@ impl Kept {
         requires size { self.now.keeper.graph.size ≡ length ids.now }
         ensures ok { OnOk result ((before after : Account)
             → HasEndedBetween before after end.now.known ids.now (core_numbers_of self.now.keeper.graph) self.now.changes.cores.items
-            → out.new.items ≡ out.old.items ++ (line_text end.now.line
-            ++ lines_behind options.show options.enter (core_number_in before) (core_number_in after) after.ids)) }
+            → out.new.items ≡ out.old.items ++ facts_text options.format (fact.Summary end.now.line
+            ∷ facts_behind options.show options.enter (core_number_in before) (core_number_in after) after.ids)) }
         ensures err { OnErr result (out.new.items ≡ out.old.items) }
     {
         let before = out.len();
@@ -183,34 +200,60 @@ impl Kept {
         self.put_end_or_nothing(alloc, options, &end, gathered.ids().names(), out)
     }
 
-    /// The layers of the graph where the answer to a question needs them, computed anew, and else none.
-    fn layers_for(&self, alloc: Global, question: Question) -> Result<Vec<u32>, NoMemory>
-        ensures { IfOk result (λ layer. needs_layers question ≡ true → layer.items ≡ layers_of self.now.keeper.graph) }
+    /// What is kept, where so many batches have ended and the vertices stand for the first of these ids.
+    pub(crate) fn state(
+        &self,
+        alloc: Global,
+        batches: u32,
+        ids: &[u32],
+    ) -> Result<WatchedState, NoMemory>
+        ensures batches { IfOk result (λ state. state.batches ≡ batches) }
+        ensures ids { IfOk result (λ state. state.ids.items ≡ take self.now.keeper.graph.size ids.now) }
+        ensures graph { IfOk result (λ state. state.lawful.graph ≡ self.now.keeper.graph) }
+    {
+        let ids = Vec::from_slice(alloc, front(ids, self.keeper.vertices()))?;
+        let lawful = self.keeper.to_lawful(alloc)?;
+        Ok(WatchedState {
+            batches,
+            ids,
+            lawful,
+        })
+    }
+
+    /// Keeps the layers of the graph where the answer to a question needs them.
+    fn keep_layers_for(&mut self, alloc: Global, question: Question) -> Result<(), NoMemory>
+        ensures graph { self.new.keeper.graph ≡ self.old.keeper.graph }
+        ensures layers { OnOk result (needs_layers question ≡ true → self.new.keeper.layers ≡ Some (layers_of self.new.keeper.graph)) }
     {
         if !needs_layers(question) {
-            return Ok(Vec::new(alloc));
+            return Ok(());
         }
-        let graph = self.keeper.graph().to_graph(alloc)?;
-        layers(alloc, &graph, self.keeper.core_numbers())
+        self.keeper.keep_layers(alloc)
     }
 
     /// Puts the line that answers a question about the graph, whose vertices stand for the first of these ids. Where there is no memory,
     /// nothing is put.
     pub(crate) fn answer(
-        &self,
+        &mut self,
         alloc: Global,
         ids: &Ids,
         question: Question,
+        format: ReplyFormat,
         out: &mut Vec<u8>,
     ) -> Result<(), NoMemory>
-        requires { self.now.keeper.graph.size ≤ length ids.now }
-        ensures ok { OnOk result (out.new.items ≡ out.old.items
-            ++ answer_to question (take self.now.keeper.graph.size ids.now) (core_numbers_of self.now.keeper.graph)
-            (layers_of self.now.keeper.graph)) }
+        requires { self.old.keeper.graph.size ≤ length ids.now }
+        ensures same { self.new.keeper.graph ≡ self.old.keeper.graph }
+        ensures ok { OnOk result (out.new.items ≡ out.old.items ++ fact_text format
+            (answer_to question (take self.old.keeper.graph.size ids.now) (core_numbers_of self.old.keeper.graph)
+            (layers_of self.old.keeper.graph))) }
         ensures err { OnErr result (out.new.items ≡ out.old.items) }
     {
-        let layer = self.layers_for(alloc, question)?;
+        self.keep_layers_for(alloc, question)?;
         let core = self.keeper.core_numbers();
-        put_answer(alloc, ids, core, &layer, question, out)
+        let numbers = Numbers {
+            core,
+            layer: self.keeper.layers(),
+        };
+        put_answer(alloc, ids, numbers, question, format, out)
     }
 }

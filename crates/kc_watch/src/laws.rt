@@ -1,16 +1,17 @@
 //! What holds of the text that answers a stream, as laws over the definitions alone. A law is a function without a body, whose contract is
 //! the law.
-ghost use Rattle.std.specs.Prelude.{◌≡◌, ◌≤◌, ◌<◌, ◌↔◌, ◌++◌, ◌∷◌, [], AllPairs, List, None, Option, ℕ, slice_index};
+ghost use Rattle.std.specs.Prelude.{◌≡◌, ◌≤◌, ◌<◌, ◌↔◌, ◌++◌, ◌∷◌, [], AllPairs, List, None, ℕ, slice_index};
 ghost use Rattle.kc_graph.specs.Certificate.{Certifies};
 ghost use Rattle.kc_graph.specs.Core.{AreCoreNumbers, IsInCore};
 ghost use Rattle.kc_graph.specs.SimpleGraph.{SimpleGraph};
 ghost use Rattle.kc_tally.specs.Layers.{AreLayers};
 ghost use Rattle.kc_text.specs.declared.change.ChangeLine.{ChangeLine};
-ghost use Rattle.kc_changes.specs.declared.show.Show.{Show};
+ghost use Rattle.kc_reply.specs.Texts.{facts_text};
+ghost use Rattle.kc_reply.specs.declared.reply_format.ReplyFormat.{ReplyFormat};
 ghost use Rattle.kc_stream.specs.Hearing.{heard_at_end, heard_so_far};
 ghost use Rattle.kc_stream.specs.declared.bad_lines.BadLines.TheVariants as on_bad;
 ghost use Rattle.kc_watch.specs.Accounts.{account_of, core_numbers_of, layers_of, one_ended};
-ghost use Rattle.kc_watch.specs.Text.{IsAnsweredBefore, reply, reply_at_end};
+ghost use Rattle.kc_watch.specs.Text.{IsAnsweredBefore, facts_at_end, reply, reply_at_end, reply_facts};
 ghost use Rattle.kc_watch.specs.declared.options.WatchOptions.{WatchOptions};
 
 /// Each graph has its core numbers, and no other list of numbers is its core numbers.
@@ -61,10 +62,17 @@ pub fn where_bad_lines_stop_no_batch_is_dropped()
 
 /// As long as no line is refused, it is no matter what becomes of bad lines: the text is the same.
 pub fn without_refused_lines_the_text_is_the_same()
-    ensures so_far { (show : Show) (enter : Option ℕ) (bytes : List ℕ) → (heard_so_far on_bad.Stop bytes).refusal ≡ None
-        → reply (record { show = show; enter = enter; bad_lines = on_bad.Stop }) bytes
-        ≡ reply (record { show = show; enter = enter; bad_lines = on_bad.Batch }) bytes }
-    ensures at_end { (show : Show) (enter : Option ℕ) (bytes : List ℕ) → (heard_at_end on_bad.Stop bytes).refusal ≡ None
-        → reply_at_end (record { show = show; enter = enter; bad_lines = on_bad.Stop }) bytes
-        ≡ reply_at_end (record { show = show; enter = enter; bad_lines = on_bad.Batch }) bytes }
+    ensures so_far { (options : WatchOptions) (bytes : List ℕ) → (heard_so_far on_bad.Stop bytes).refusal ≡ None
+        → reply (record options { bad_lines = on_bad.Stop }) bytes ≡ reply (record options { bad_lines = on_bad.Batch }) bytes }
+    ensures at_end { (options : WatchOptions) (bytes : List ℕ) → (heard_at_end on_bad.Stop bytes).refusal ≡ None
+        → reply_at_end (record options { bad_lines = on_bad.Stop }) bytes ≡ reply_at_end (record options { bad_lines = on_bad.Batch }) bytes }
+{}
+
+/// Whatever the format, the same is told. The answer has a line for each of these facts and no other line (`each_fact_is_one_line` of `kc_reply`),
+/// so in two formats there are as many lines, and line by line they tell the same.
+pub fn each_format_tells_the_same()
+    ensures so_far { (options : WatchOptions) (format : ReplyFormat) (bytes : List ℕ)
+        → reply (record options { format = format }) bytes ≡ facts_text format (reply_facts options bytes) }
+    ensures at_end { (options : WatchOptions) (format : ReplyFormat) (bytes : List ℕ)
+        → reply_at_end (record options { format = format }) bytes ≡ facts_text format (facts_at_end options bytes) }
 {}

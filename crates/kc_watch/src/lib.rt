@@ -4,8 +4,8 @@
 //! the start once a batch begins, and a line for each batch once it ends, as the next one begins or the stream ends. The stream has the
 //! lines of `kc_text`, and the lines of the answer are those of `kc_report`, with those of `kc_changes` behind a batch where they are asked
 //! for. Among the changes stand the questions of `kc_stream`, and a line of `kc_answers` answers each at once. `specs/Text` says what the
-//! answer to some bytes is: of the core numbers of the graph before and after each batch (Seidman 1983), and not of what the watcher keeps.
-//! So no line is held back, and none is early.
+//! answer to some bytes is: first the facts that are told, of the core numbers of the graph before and after each batch (Seidman 1983), and not
+//! of what the watcher keeps; and then their lines, in words or as JSON objects (`kc_reply`). So no line is held back, and none is early.
 //!
 //! A refused line ends the answers, or drops its batch, as [`BadLines`] says: what the batch did is forgotten, and a line tells so in its place.
 //!
@@ -15,16 +15,20 @@
 
 mod batch;
 mod course;
+mod first_graph;
 mod kept;
 pub mod laws;
 mod listing;
 mod options;
-mod refused;
+mod roomy;
 mod start;
+mod state;
 mod watcher;
 
 pub use kc_changes::Show;
+pub use kc_reply::ReplyFormat;
 pub use kc_stream::BadLines;
 pub use options::WatchOptions;
+pub use state::WatchedState;
 pub use std::alloc::AllocError as NoMemory;
 pub use watcher::Watcher;

@@ -1,11 +1,12 @@
-//! What a stream is answered beside the lines of its graph and of its batches, and what becomes of bad lines.
+//! What a stream is answered beside the lines of its graph and of its batches, what becomes of bad lines, and how the answers are written.
 ghost use Rattle.std.specs.Prelude.{◌≡◌, None, true};
 ghost use Rattle.kc_changes.specs.declared.show.Show.{Show};
 
 use kc_changes::Show;
+use kc_reply::ReplyFormat;
 use kc_stream::BadLines;
 
-/// What a stream is answered beside the lines of its graph and of its batches, and what becomes of bad lines.
+/// What a stream is answered beside the lines of its graph and of its batches, what becomes of bad lines, and how the answers are written.
 #[derive(Clone, Copy, Debug, PartialEq, Eq)]
 pub struct WatchOptions {
     /// What is told of core numbers behind a batch.
@@ -14,6 +15,8 @@ pub struct WatchOptions {
     pub enter: Option<u32>,
     /// What becomes of a refused line in a batch.
     pub bad_lines: BadLines,
+    /// How the answers are written.
+    pub format: ReplyFormat,
 }
 
 impl WatchOptions {

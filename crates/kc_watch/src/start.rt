@@ -1,14 +1,16 @@
 //! The graph of the start: its keeper, and its line.
-ghost use Rattle.std.specs.Prelude.{◌≡◌, ◌≤◌, ◌++◌, All, IfOk, OnErr, OnOk, length};
-ghost use Rattle.kc_words.specs.declared.layout.TheConstants.{VERTICES};
+ghost use Rattle.std.specs.Prelude.{◌≡◌, ◌++◌, All, IfOk, OnErr, OnOk, length};
+ghost use Rattle.kc_reply.specs.Facts as fact;
+ghost use Rattle.kc_reply.specs.Texts.{fact_text};
 ghost use Rattle.kc_stream.specs.Gathering.{IsPairBelow};
 ghost use Rattle.kc_watch.specs.Text.{start_line};
 ghost use Rattle.kc_watch.specs.Watching.{graph_gathered};
 
 use crate::NoMemory;
+use crate::roomy::RoomyKeeper;
 use kc_graph::{Graph, Lawful, decompose_owned, greatest};
-use kc_keeper::{Keeper, OpenFault};
-use kc_report::{Line, summary};
+use kc_reply::{ReplyFormat, ReplyLine, put_reply_line};
+use kc_report::Line;
 use kc_stream::Gathered;
 use std::alloc::Global;
 
@@ -22,27 +24,16 @@ fn graph_of(alloc: Global, gathered: &Gathered) -> Result<Lawful, NoMemory>
     decompose_owned(alloc, graph)
 }
 
-/// A keeper of a graph that has no more vertices than it may have.
-fn keep(alloc: Global, lawful: Lawful) -> Result<Keeper, NoMemory>
-    requires { lawful.graph.size ≤ VERTICES }
-    ensures { IfOk result (λ keeper. keeper ≡ lawful) }
-{
-    match Keeper::open(alloc, lawful) {
-        Ok(keeper) => Ok(keeper),
-        Err(OpenFault::NoMemory) => Err(NoMemory),
-        Err(OpenFault::TooManyVertices { .. }) => unreachable!(),
-    }
-}
-
 /// Ends the start: keeps the graph of the edges that were gathered, and puts its line. Where there is no memory, nothing is put.
 pub(crate) fn end_start(
     alloc: Global,
     gathered: &Gathered,
+    format: ReplyFormat,
     out: &mut Vec<u8>,
-) -> Result<Keeper, NoMemory>
+) -> Result<RoomyKeeper, NoMemory>
     requires { All (IsPairBelow (length gathered.now.ids)) gathered.now.edges.items }
     ensures kept { IfOk result (λ keeper. keeper.graph ≡ graph_gathered gathered.now) }
-    ensures put { OnOk result (out.new.items ≡ out.old.items ++ start_line (graph_gathered gathered.now)) }
+    ensures put { OnOk result (out.new.items ≡ out.old.items ++ fact_text format (fact.Summary (start_line (graph_gathered gathered.now)))) }
     ensures err { OnErr result (out.new.items ≡ out.old.items) }
 {
     let lawful = graph_of(alloc, gathered)?;
@@ -51,7 +42,7 @@ pub(crate) fn end_start(
         edges: lawful.graph().edges(),
         top: greatest(lawful.core()),
     };
-    let keeper = keep(alloc, lawful)?;
-    summary(out, &line)?;
+    let keeper = RoomyKeeper::open(alloc, lawful)?;
+    put_reply_line(out, format, ReplyLine::Summary(line))?;
     Ok(keeper)
 }

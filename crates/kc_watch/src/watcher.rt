@@ -1,15 +1,17 @@
 //! What is fed a stream, and answers it.
-ghost use Rattle.std.specs.Prelude.{◌≡◌, ◌++◌, [], None, true, List, ℕ, is_some, OnErr, OnOk};
+ghost use Rattle.std.specs.Prelude.{◌≡◌, ◌++◌, [], None, Some, true, IfOk, List, ℕ, is_some, OnErr, OnOk};
 ghost use Rattle.kc_dialogue.specs.Replies.{IsPrefixOf};
 ghost use Rattle.kc_dialogue.specs.declared.flow.Flow.{Flow};
 ghost use Rattle.kc_text.specs.Lines.{EndsLine};
 ghost use Rattle.kc_stream.specs.Hearing.{heard_at_end, heard_so_far};
+ghost use Rattle.kc_watch.specs.States.{IsStateFor, account_at_end, account_so_far, ended_in};
 ghost use Rattle.kc_watch.specs.Text.{reply, reply_at_end};
 ghost use Rattle.kc_watch.specs.Watching.{HasEnded, WasFed};
 
 use crate::NoMemory;
 use crate::course::Course;
 use crate::options::WatchOptions;
+use crate::state::WatchedState;
 use kc_dialogue::flow::Flow;
 use kc_dialogue::replier::Replier;
 use kc_stream::ended_len;
@@ -32,9 +34,10 @@ impl Watcher {
     ///
     /// ```rust
     /// use kc_dialogue::replier::Replier;
-    /// use kc_watch::{BadLines, Show, WatchOptions, Watcher};
+    /// use kc_watch::{BadLines, ReplyFormat, Show, WatchOptions, Watcher};
     ///
-    /// let options = WatchOptions { show: Show::Changes, enter: Some(2), bad_lines: BadLines::Stop };
+    /// let format = ReplyFormat::Words;
+    /// let options = WatchOptions { show: Show::Changes, enter: Some(2), bad_lines: BadLines::Stop, format };
     /// let mut watcher = Watcher::new(alloc, options);
     /// let mut out = Vec::new(alloc);
     /// watcher.feed(alloc, b"1 2\n2 3\nbatch\n+ 1 3\n", &mut out)?; // "graph vertices 3 edges 2 top 1\n"
@@ -49,6 +52,13 @@ impl Watcher {
             course: Course::new(alloc),
             begun: Vec::new(alloc),
         }
+    }
+
+    /// How many lines that have ended were read, the refused one that ends the reading among them, up to the greatest number.
+    pub fn lines(&self) -> u64
+        ensures { (fed : List ℕ) → WasFed self.now fed → result ≡ (heard_so_far self.now.options.bad_lines fed).lines }
+    {
+        self.course.lines()
     }
 
     /// The refused line that ends the reading, with the first check that it fails. Nothing behind it is answered. Bytes behind the last
@@ -66,6 +76,30 @@ impl Watcher {
         ensures at_end { (fed : List ℕ) → HasEnded self.now fed → result ≡ (heard_at_end self.now.options.bad_lines fed).refused_batches }
     {
         self.course.refused_batches()
+    }
+
+    /// How many batches have ended, refused ones among them, up to the greatest number.
+    pub fn ended_batches(&self) -> u32
+        ensures { (fed : List ℕ) → WasFed self.now fed → (heard_so_far self.now.options.bad_lines fed).refusal ≡ None
+            → result ≡ ended_in (account_so_far self.now.options.bad_lines fed) }
+    {
+        self.course.ended_batches()
+    }
+
+    /// What is kept behind the batches that have ended, copied: how many these are, the ids, and the graph with its core numbers and an order
+    /// that certifies them. There is none before any batch line, unless the stream has ended. Where a line has ended the reading, nothing is
+    /// promised of it.
+    ///
+    /// `NoMemory` comes where there is none for the copy.
+    pub fn state(&self, alloc: Global) -> Result<Option<WatchedState>, NoMemory>
+        ensures so_far { IfOk result (λ state. (fed : List ℕ) → WasFed self.now fed
+            → (heard_so_far self.now.options.bad_lines fed).refusal ≡ None
+            → IsStateFor (account_so_far self.now.options.bad_lines fed) state) }
+        ensures at_end { IfOk result (λ state. (fed : List ℕ) → HasEnded self.now fed
+            → (heard_at_end self.now.options.bad_lines fed).refusal ≡ None
+            → IsStateFor (Some (account_at_end self.now.options.bad_lines fed)) state) }
+    {
+        self.course.state(alloc)
     }
 
     fn flow(&self) -> Flow

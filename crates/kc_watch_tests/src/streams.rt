@@ -4,7 +4,7 @@ ghost use Rattle.kc_watch.specs.Watching.{WasFed};
 
 use kc_dialogue::replier::Replier;
 use kc_text::{Kind, Refusal};
-use kc_watch::{BadLines, Show, WatchOptions, Watcher};
+use kc_watch::{BadLines, ReplyFormat, Show, WatchOptions, Watcher};
 use std::alloc::Global;
 use std::process::Abort;
 
@@ -13,13 +13,15 @@ const BRIEF: WatchOptions = WatchOptions {
     show: Show::Summary,
     enter: None,
     bad_lines: BadLines::Stop,
+    format: ReplyFormat::Words,
 };
 
 /// And each core number that changes.
-const CHANGES: WatchOptions = WatchOptions {
+pub(crate) const CHANGES: WatchOptions = WatchOptions {
     show: Show::Changes,
     enter: None,
     bad_lines: BadLines::Stop,
+    format: ReplyFormat::Words,
 };
 
 /// And who comes into the 2-core or leaves it.
@@ -27,6 +29,7 @@ const ENTER: WatchOptions = WatchOptions {
     show: Show::Summary,
     enter: Some(2),
     bad_lines: BadLines::Stop,
+    format: ReplyFormat::Words,
 };
 
 /// And both.
@@ -34,6 +37,7 @@ const BOTH: WatchOptions = WatchOptions {
     show: Show::Changes,
     enter: Some(1),
     bad_lines: BadLines::Stop,
+    format: ReplyFormat::Words,
 };
 
 /// A refused line drops its batch, and the next ones have each core number that changes.
@@ -41,6 +45,15 @@ const DROPS: WatchOptions = WatchOptions {
     show: Show::Changes,
     enter: None,
     bad_lines: BadLines::Batch,
+    format: ReplyFormat::Words,
+};
+
+/// Each core number that changes, and who comes into the 2-core or leaves it, as JSON objects. A refused line drops its batch.
+const OBJECTS: WatchOptions = WatchOptions {
+    show: Show::Changes,
+    enter: Some(2),
+    bad_lines: BadLines::Batch,
+    format: ReplyFormat::Json,
 };
 
 /// What a stream is answered, the refused line that ends the answers, and how many batches are dropped.
@@ -115,12 +128,22 @@ fn check_reply<R: Abort + AllocGlobal>(
 }
 
 /// Checks what a stream is answered of which no line is refused.
-fn check_with<R: Abort + AllocGlobal>(rt: &R, options: WatchOptions, stream: &[u8], wanted: &[u8]) {
+pub(crate) fn check_with<R: Abort + AllocGlobal>(
+    rt: &R,
+    options: WatchOptions,
+    stream: &[u8],
+    wanted: &[u8],
+) {
     check_reply(rt, options, stream, wanted, (None, 0));
 }
 
 /// Checks what a stream is answered where refused lines drop their batches, so many in all.
-fn check_dropped<R: Abort + AllocGlobal>(rt: &R, stream: &[u8], wanted: &[u8], count: u64) {
+pub(crate) fn check_dropped<R: Abort + AllocGlobal>(
+    rt: &R,
+    stream: &[u8],
+    wanted: &[u8],
+    count: u64,
+) {
     check_reply(rt, DROPS, stream, wanted, (None, count));
 }
 
@@ -412,5 +435,35 @@ fn refused_batches(rt: HostRuntime) {
         b"1 2\nbatch\n",
         b"graph vertices 2 edges 1 top 1\nbatch 1 added 0 removed 0 kept 0 edges 1 top 1\n",
         0,
+    );
+}
+
+#[test]
+fn answers_as_json_objects(rt: HostRuntime) {
+    check_reply(
+        &rt,
+        OBJECTS,
+        b"1 2\n2 3\nbatch\n+ 1 3\nbatch\n? 1\n? 9\n? core 2\n? core 3\n? sizes\n? order 1 2\n? order 1 9\n+ 3 9\n- 1 2\n- 2 1\nbatch\n+ 4 4\n",
+        b"{\"event\":\"graph\",\"vertices\":3,\"edges\":2,\"top\":1}\n\
+          {\"event\":\"batch\",\"batch\":1,\"added\":1,\"removed\":0,\"kept\":0,\"edges\":3,\"top\":2}\n\
+          {\"event\":\"change\",\"id\":1,\"old\":1,\"new\":2}\n\
+          {\"event\":\"change\",\"id\":2,\"old\":1,\"new\":2}\n\
+          {\"event\":\"change\",\"id\":3,\"old\":1,\"new\":2}\n\
+          {\"event\":\"enter\",\"id\":1}\n{\"event\":\"enter\",\"id\":2}\n{\"event\":\"enter\",\"id\":3}\n\
+          {\"event\":\"core\",\"id\":1,\"core\":2}\n\
+          {\"event\":\"core\",\"id\":9,\"core\":null}\n\
+          {\"event\":\"members\",\"core\":2,\"ids\":[1,2,3]}\n\
+          {\"event\":\"members\",\"core\":3,\"ids\":[]}\n\
+          {\"event\":\"sizes\",\"sizes\":[{\"core\":2,\"vertices\":3}]}\n\
+          {\"event\":\"order\",\"first\":1,\"second\":2,\"order\":\"before\"}\n\
+          {\"event\":\"order\",\"first\":1,\"second\":9,\"order\":null}\n\
+          {\"event\":\"batch\",\"batch\":2,\"added\":1,\"removed\":1,\"kept\":0,\"overruled\":1,\"edges\":3,\"top\":1}\n\
+          {\"event\":\"change\",\"id\":1,\"old\":2,\"new\":1}\n\
+          {\"event\":\"change\",\"id\":2,\"old\":2,\"new\":1}\n\
+          {\"event\":\"change\",\"id\":3,\"old\":2,\"new\":1}\n\
+          {\"event\":\"change\",\"id\":9,\"old\":null,\"new\":1}\n\
+          {\"event\":\"leave\",\"id\":1}\n{\"event\":\"leave\",\"id\":2}\n{\"event\":\"leave\",\"id\":3}\n\
+          {\"event\":\"refused\",\"batch\":3,\"line\":17,\"kind\":5,\"name\":\"LoopInBatch\"}\n",
+        (None, 1),
     );
 }

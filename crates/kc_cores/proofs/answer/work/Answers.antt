@@ -1,6 +1,6 @@
 -- A reply, a listing, a file, a check and the answer to a stream each end as the words ask for.
 use Rattle.std.proofs.Common.{map, refl}
-use Rattle.kc_cores.specs.Endings.{line_of, query_of, text_of}
+use Rattle.kc_cores.specs.Endings.{line_of, query_of, stream_of_request, text_of}
 use Rattle.kc_cores.specs.Wishes.{wish_of}
 use Rattle.kc_cores.proofs.Replaced.{RunEnded-asked, RunEnded-reply, RunEnded-save, not_saved}
 use Rattle.kc_cores.proofs.Checked.{EndsAsAsked-check, EndsAsAsked-lines, EndsAsAsked-reply, EndsAsAsked-stream, EndsAsAsked-watch}
@@ -80,10 +80,10 @@ returns-in-Ok-Watch-clause-ended g c =
     let asks = rw c.in-Ok-Watch.field-0-is at c.in-Ok-Watch.ensures.asks in
     let ended =
     EndsAsAsked-watch g.I.Source g.I.FileInput.behind g.C.Source g.C.FileInput.behind g.O.Sink g.O.PipeSink.gone
-    g.L.Wire (wish_of (map g.W.AsStr.text c.args.words.now)) c.in-Ok-Watch.options c.watch.result.status (line_of c.watch.result) c.args.streams.now.input
-    c.args.streams.now.input c.args.streams.now.certificate c.args.streams.now.certificate c.args.streams.now.out c.args.streams.now.out
-    c.args.streams.now.wire c.watch.new.wire asks c.watch.ensures refl refl refl in
+    g.L.Wire (wish_of (map g.W.AsStr.text c.args.words.now)) (stream_of_request c.in-Ok-Watch.request) c.watch.result.status (line_of c.watch.result)
+    c.args.streams.now.input c.watch.new.input c.args.streams.now.certificate c.args.streams.now.certificate c.args.streams.now.out
+    c.args.streams.now.out c.args.streams.now.wire c.watch.new.wire asks c.watch.ensures refl refl in
     RunEnded-asked g.I.Source g.I.FileInput.behind g.P.Folder.holds g.P.Folder.failed g.C.Source g.C.FileInput.behind g.O.Sink g.O.PipeSink.gone g.L.Wire
-    (wish_of (map g.W.AsStr.text c.args.words.now)) c.watch.result.status (line_of c.watch.result) c.args.streams.now.input c.args.streams.now.input
+    (wish_of (map g.W.AsStr.text c.args.words.now)) c.watch.result.status (line_of c.watch.result) c.args.streams.now.input c.watch.new.input
     c.args.streams.now.certificate c.args.streams.now.certificate c.args.streams.now.out c.args.streams.now.out c.args.streams.now.wire c.watch.new.wire
     c.args.folder.now c.args.folder.now (not_saved _ _ asks (λ name query e. absurd (cc))) ended refl

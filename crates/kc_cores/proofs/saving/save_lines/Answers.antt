@@ -1,9 +1,9 @@
 -- The file has what the part took, and where a call failed no file has changed.
 use Rattle.std.proofs.Common.{◌∙◌, sym}
 use Rattle.std.proofs.lemmas.Result.{on_err_weaker, on_ok_weaker}
+use Rattle.kc_files.proofs.Placed.{HasBytes-part, rose-above}
 use Rattle.kc_read.proofs.Outcomes.{at_err, at_ok}
 use Rattle.kc_cores.specs.Listings.{made_text}
-use Rattle.kc_cores.proofs.Replaced.{HasBytes-part, rose-above}
 use Rattle.kc_cores.proofs.saving.save_lines.Goals as goal
 
 pub give_up-is_left-requires : goal.give_up-is_left-requires

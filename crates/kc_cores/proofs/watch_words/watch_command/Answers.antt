@@ -1,14 +1,10 @@
--- The three options add their rules to the command.
-use Rattle.std.proofs.Common.{ap₂, ◌∙◌}
+-- The options add their rules to the command.
+use Rattle.std.proofs.Common.{ap, ◌∙◌}
 use Rattle.std.proofs.lemmas.Result.{IfOk-weaker}
-use Rattle.clap.specs.Simple.{with_rule}
+use Rattle.kc_cores.specs.Wishes.{with_answers, with_start}
 use Rattle.kc_cores.proofs.watch_words.watch_command.Goals as goal
 
 pub returns-clause-app : goal.returns-clause-app
 returns-clause-app c =
-    IfOk-weaker c.arg-3.result _ _
-    (λ made h. h.shape c.value_option-bad_lines.ensures.local
-    ∙ ap₂ with_rule (c.in_ok-entered.ensures.shape c.enter_option.ensures.local
-    ∙ ap₂ with_rule (c.in_ok-shown.ensures.shape c.value_option-show.ensures.local
-    ∙ ap₂ with_rule c.stream_command.ensures.app c.value_option-show.ensures.rule) c.enter_option.ensures.rule)
-    c.value_option-bad_lines.ensures.rule) c.arg-3.ensures
+    IfOk-weaker c.with_start.result _ _
+    (λ made h. h ∙ ap with_start (c.in_ok-answered.ensures.app ∙ ap with_answers c.stream_command.ensures.app)) c.with_start.ensures.app

@@ -1,17 +1,12 @@
--- Nothing has happened where there is no memory to begin. Each turn goes on with the dialogue so far.
-use Rattle.std.proofs.Common.{[], refl}
-use Rattle.kc_dialogue.proofs.Cuts.{TellsMore-nothing}
-use Rattle.kc_dialogue.proofs.Turning.{IsDialogue-nothing}
+-- A replier that was fed nothing says nothing first.
+use Rattle.std.proofs.Common.{◌∙◌, [], sym}
 use Rattle.kc_dialogue.proofs.answer.answer_wire.Goals as goal
 
-pub returns-in_default-clause-answered : goal.returns-in_default-clause-answered
-returns-in_default-clause-answered g c = (
-  [],
-  TellsMore-nothing (g.W.Wire.history c.args.wire.now),
-  record {
-    dialogue = IsDialogue-nothing (g.R.Replier.reply c.args.replier.now);
-    written = (g.R.Replier.reply c.args.replier.now [], refl);
-  },
-  λ e. absurd (cc),
-  λ e. absurd (cc),
-)
+pub answer_opened-requires : goal.answer_opened-requires
+answer_opened-requires g c =
+    ([], record { fed = c.requires.fed; said = c.new.ensures.items ∙ sym c.requires.silent; ended = λ e. absurd (cc) })
+
+pub returns-clause-answered : goal.returns-clause-answered
+returns-clause-answered g c =
+    c.answer_opened.ensures.answered []
+    (record { fed = c.requires.fed; said = c.new.ensures.items ∙ sym c.requires.silent; ended = λ e. absurd (cc) })

@@ -3,12 +3,13 @@ use Rattle.std.proofs.Common.{◌≡◌, ◌<◌, ◌-◌, ℕ, List, length, ap
 use Rattle.std.specs.Prelude.{All, not}
 use Rattle.kc_graph.specs.SimpleGraph.{SimpleGraph}
 use Rattle.kc_graph.specs.declared.update.Update.{Update}
-use Rattle.kc_keeper.specs.Batches.{count_applied, made_in_turn}
+use Rattle.kc_keeper.specs.Batches.{count_applied, made_in_turn, updates_made}
 use Rattle.kc_keeper.specs.Cores.{AreCoreChanges}
 use Rattle.kc_keeper.specs.declared.changes.CoreChange.{CoreChange}
 use Rattle.kc_watch.specs.Accounts.{core_numbers_of}
 use Rattle.kc_watch.proofs.Accounts.{numbers-alone}
 use Rattle.kc_watch.proofs.Entering.{AreApart, applied-few, effects-of, made-batch, none-outside}
+use Rattle.kc_watch.proofs.Spare.{edges-applied, size-made}
 use Rattle.kc_watch.proofs.batch.make.Goals as goal
 
 pub overflow_cast-result : goal.overflow_cast-result
@@ -64,6 +65,26 @@ returns-in-Ok-clause-effects c =
     (c.in-Ok.ensures.added ∙ ap (count_applied (λ u. u.add) g) c.deref.ensures.value)
     (c.in-Ok.ensures.removed ∙ ap (count_applied (λ u. not u.add) g) c.deref.ensures.value)
     (ap (λ (n : ℕ). n - c.apply.new.changes.added - c.apply.new.changes.removed) count) c.in_ok-batch.ensures.overruled
+
+pub returns-in-Ok-clause-size : goal.returns-in-Ok-clause-size
+returns-in-Ok-clause-size c =
+    let g : SimpleGraph = c.args.keeper.now.graph in
+    ap (λ (h : SimpleGraph). h.size) c.apply.ensures.graph ∙ size-made (updates_made c.apply.result c.deref.result.now) g
+
+pub returns-in-Err-NoMemory-clause-size : goal.returns-in-Err-NoMemory-clause-size
+returns-in-Err-NoMemory-clause-size c =
+    let g : SimpleGraph = c.args.keeper.now.graph in
+    ap (λ (h : SimpleGraph). h.size) c.apply.ensures.graph ∙ size-made (updates_made c.apply.result c.deref.result.now) g
+
+pub returns-in-Ok-clause-edges : goal.returns-in-Ok-clause-edges
+returns-in-Ok-clause-edges c = λ vertices all.
+    edges-applied vertices c.args.keeper.now.graph c.apply.new.self.graph c.apply.result c.deref.result.now c.apply.ensures.graph
+    (subst (λ (us : List Update). All (λ u. u.v < vertices) us) (sym c.deref.ensures.value) (c.in_ok-batch.ensures.batch vertices all).within)
+
+pub returns-in-Err-NoMemory-clause-edges : goal.returns-in-Err-NoMemory-clause-edges
+returns-in-Err-NoMemory-clause-edges c = λ vertices all.
+    edges-applied vertices c.args.keeper.now.graph c.apply.new.self.graph c.apply.result c.deref.result.now c.apply.ensures.graph
+    (subst (λ (us : List Update). All (λ u. u.v < vertices) us) (sym c.deref.ensures.value) (c.in_ok-batch.ensures.batch vertices all).within)
 
 pub unreachable-requires : goal.unreachable-requires
 unreachable-requires c =

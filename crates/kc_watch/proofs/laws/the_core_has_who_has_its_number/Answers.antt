@@ -1,5 +1,5 @@
 -- Who is in a core is in each lower one, and a core number is the greatest K of a core that has the vertex.
-use Rattle.std.proofs.Common.{ℕ, arith}
+use Rattle.std.proofs.Common.{arith}
 use Rattle.std.specs.Prelude.{slice_index}
 use Rattle.kc_graph.specs.Core.{IsCoreNumber}
 use Rattle.kc_watch.specs.Accounts.{core_numbers_of}

@@ -1,10 +1,12 @@
 -- A batch that is dropped ends with the line about it, and what else is open with its own text.
-use Rattle.std.proofs.Common.{◌≡◌, None, Some, Option, sym, subst, ◌∙◌, ap}
+use Rattle.std.proofs.Common.{◌≡◌, ℕ, List, None, Some, Option, sym, subst, ◌∙◌, ap, append-nil}
 use Rattle.std.specs.Prelude.{OnErr, OnOk, is_some}
 use Rattle.std.proofs.lemmas.Result.{on_ok_weaker}
 use Rattle.kc_dialogue.specs.Replies.{IsPrefixOf}
 use Rattle.kc_text.specs.declared.refusal.Refusal.{Refusal}
-use Rattle.kc_watch.specs.Text.{ending_text}
+use Rattle.kc_text.specs.Meaning.{Told}
+use Rattle.kc_reply.specs.Texts.{fact_text}
+use Rattle.kc_watch.specs.Text.{ending_text, refused_fact}
 use Rattle.kc_watch.proofs.Lines.{dropped-put}
 use Rattle.kc_watch.proofs.course.Course.end_open.Goals as goal
 
@@ -40,6 +42,7 @@ returns-in-Some-clause-keeps c = on_ok_weaker c.end_dropped.result (λ keeps hea
 
 pub returns-in-Some-clause-put : goal.returns-in-Some-clause-put
 returns-in-Some-clause-put c =
+    let text : Told → List ℕ = λ told. fact_text c.args.options.format (refused_fact told c.in-Some.refusal) in
     let (put, out, adds) = c.end_dropped.ensures.put in (
       put,
       out,
@@ -48,5 +51,6 @@ returns-in-Some-clause-put c =
           let is : heard.dropped ≡ Some c.in-Some.refusal = sym s.gathers.dropped ∙ sym c.dropped.ensures ∙ c.in-Some.is in
           subst (λ (d : Option Refusal). OnOk c.end_dropped.result (put ≡ ending_text c.args.options d heard.told)
           × OnErr c.end_dropped.result (IsPrefixOf (ending_text c.args.options d heard.told) put)) (sym is)
-          (dropped-put c.end_dropped.result _ put (adds heard.told (s.gathers.emptied (ap is_some is)) (s.keeps none))),
+          (dropped-put c.end_dropped.result (text heard.told) (ending_text c.args.options (Some c.in-Some.refusal) heard.told) put
+          (sym (append-nil (text heard.told))) (adds heard.told (s.gathers.emptied (ap is_some is)) (s.keeps none))),
     )

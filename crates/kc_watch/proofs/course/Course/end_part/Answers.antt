@@ -1,11 +1,13 @@
 -- The start ends with its graph and its line, and a batch with its own text.
 use Rattle.std.proofs.Common.{◌≡◌, [], ℕ, List, sym, subst, ap, ◌∙◌, append-nil, arith, Option}
 use Rattle.std.proofs.lemmas.List.{append_cancel_left}
-use Rattle.kc_graph.specs.Lawful.{Ranked}
 use Rattle.kc_text.specs.Deciding.{last_batch}
 use Rattle.kc_text.specs.Inputs.{EdgeBatch}
 use Rattle.kc_text.specs.Meaning.{Told}
 use Rattle.kc_watch.specs.Accounts.{Account, account_of, entered, one_ended}
+use Rattle.kc_reply.specs.Facts as fact
+use Rattle.kc_reply.specs.Texts.{fact_text}
+use Rattle.kc_watch.specs.Layered.{LayeredGraph}
 use Rattle.kc_watch.specs.Text.{batch_text, open_text, start_line}
 use Rattle.kc_watch.specs.Watching.{KeepsAccount, graph_gathered}
 use Rattle.kc_watch.specs.declared.kept.Kept.{Kept}
@@ -24,11 +26,11 @@ pub returns-in_default-clause-keeps : goal.returns-in_default-clause-keeps
 returns-in_default-clause-keeps c = λ told h k.
     start-keeps c.args.self.now.gathered told h c.new.result c.args.self.now.ended
     (subst (λ (o : Option Kept). KeepsAccount o c.args.self.now.ended told) c.in_default.is k)
-    (ap (λ (r : Ranked). r.graph) c.new.ensures ∙ c.in_ok-keeper.ensures.kept)
+    (ap (λ (k : LayeredGraph). k.graph) c.new.ensures ∙ c.in_ok-keeper.ensures.kept)
 
 pub returns-in_default-clause-put : goal.returns-in_default-clause-put
 returns-in_default-clause-put c = (
-  start_line (graph_gathered c.args.self.now.gathered),
+  fact_text c.args.options.format (fact.Summary (start_line (graph_gathered c.args.self.now.gathered))),
   c.in_ok-keeper.ensures.put,
   λ told h k. (
     sym (start-text c.args.self.now.gathered told h c.args.options c.args.self.now.ended

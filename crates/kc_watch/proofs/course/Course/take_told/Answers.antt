@@ -1,5 +1,5 @@
 -- Of the lines that tell, only a batch line is answered something.
-use Rattle.std.proofs.Common.{◌≡◌, ◌++◌, [], ℕ, List, sym, subst, refl, append-nil}
+use Rattle.std.proofs.Common.{◌≡◌, ◌++◌, [], ℕ, List, sym, subst, append-nil}
 use Rattle.std.specs.Prelude.{OnErr, OnOk}
 use Rattle.std.proofs.lemmas.Result.{on_ok_weaker}
 use Rattle.kc_dialogue.specs.Replies.{IsPrefixOf}
@@ -26,7 +26,7 @@ returns-in-Batch-clause-put c =
 pub returns-in_default : goal.returns-in_default
 returns-in_default c = record {
   stands = on_ok_weaker c.take.result
-      (λ g heard s. other-stands c.args.self.now _ c.args.options.bad_lines c.args.told c.in_default.not-Batch c.requires.going refl refl heard s
+      (λ g heard s. other-stands c.args.self.now _ c.args.options.bad_lines c.args.told c.in_default.not-Batch c.requires.going (λ told k. k) heard s
       (g heard s.gathers)) c.take.ensures;
   put = (
     [],

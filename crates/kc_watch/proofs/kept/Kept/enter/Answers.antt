@@ -14,7 +14,7 @@ use Rattle.kc_watch.proofs.kept.Kept.enter.Goals as goal
 pub returns-clause-graph : goal.returns-clause-graph
 returns-clause-graph c =
     let g : SimpleGraph = c.args.self.now.keeper.graph in
-    let grown : c.grow_to.new.keeper.graph ≡ with_vertices (length c.args.gathered.now.ids) g =
+    let grown : c.grow_to.new.self.graph ≡ with_vertices (length c.args.gathered.now.ids) g =
     c.in_ok-grow_to.ensures.graph ∙ ap (λ (n : ℕ). with_vertices n g) (c.count.ensures.count ∙ ap length c.ids.ensures) in
     on_ok_weaker c.make.result
     (λ e. e ∙ ap₂ (λ (h : SimpleGraph) (us : List Update). graph_after_batch h (last_batch us).updates) grown c.updates.ensures) c.make.ensures.graph
@@ -22,9 +22,9 @@ returns-clause-graph c =
 pub returns-clause-effects : goal.returns-clause-effects
 returns-clause-effects c =
     let g : SimpleGraph = c.args.self.now.keeper.graph in
-    let grown : c.grow_to.new.keeper.graph ≡ with_vertices (length c.args.gathered.now.ids) g =
+    let grown : c.grow_to.new.self.graph ≡ with_vertices (length c.args.gathered.now.ids) g =
     c.in_ok-grow_to.ensures.graph ∙ ap (λ (n : ℕ). with_vertices n g) (c.count.ensures.count ∙ ap length c.ids.ensures) in
-    IfOk-weaker c.make.result (λ effects. AreEffects c.grow_to.new.keeper.graph (last_batch c.updates.result.now) effects)
+    IfOk-weaker c.make.result (λ effects. AreEffects c.grow_to.new.self.graph (last_batch c.updates.result.now) effects)
     (λ effects. AreEffects g (last_batch c.args.gathered.now.updates.items) effects)
     (λ effects are.
     let e = subst (λ (us : List Update). AreEffects (with_vertices (length c.args.gathered.now.ids) g) (last_batch us) effects) c.updates.ensures
@@ -35,5 +35,5 @@ pub returns-clause-moves : goal.returns-clause-moves
 returns-clause-moves c =
     let g : SimpleGraph = c.args.self.now.keeper.graph in
     on_ok_weaker c.make.result
-    (λ e. moves-from g.size (core_numbers_of g) (core_numbers_of c.grow_to.new.keeper.graph) (core_numbers_of c.make.new.keeper.graph)
-    c.make.new.changes.cores.items c.in_ok-grow_to.ensures.numbers e) c.make.ensures.cores
+    (λ e. moves-from g.size (core_numbers_of g) (core_numbers_of c.grow_to.new.self.graph) (core_numbers_of c.make.new.self.graph)
+    c.make.new.changes.cores.items (λ v _. c.in_ok-grow_to.ensures.numbers v) e) c.make.ensures.cores

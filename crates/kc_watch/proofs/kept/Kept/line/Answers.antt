@@ -1,11 +1,8 @@
 -- The line tells what the updates did, and of the graph after them.
-use Rattle.std.proofs.Common.{ap, ◌∙◌}
-use Rattle.std.specs.FinSet as set
-use Rattle.kc_graph.specs.SimpleGraph.{SimpleGraph}
 use Rattle.kc_watch.proofs.Entering.{batch-line-is}
 use Rattle.kc_watch.proofs.kept.Kept.line.Goals as goal
 
 pub returns : goal.returns
 returns c g batch are =
     batch-line-is c.args.number g batch c.args.effects c.args.self.now.keeper.graph c.core_numbers.result.now c.edges.result c.greatest.result are
-    (c.edges.ensures ∙ ap (λ (h : SimpleGraph). set.len h.edges) c.graph.ensures) c.greatest.ensures c.core_numbers.ensures.seidman
+    c.edges.ensures c.greatest.ensures c.core_numbers.ensures.seidman

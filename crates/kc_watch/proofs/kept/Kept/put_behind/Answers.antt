@@ -1,10 +1,11 @@
 -- Where nothing is asked for, nothing stands behind the line; and else the changes of the ids are listed.
 use Rattle.std.proofs.Common.{◌≡◌, ◌++◌, ℕ, List, Option, ap₂, sym, subst, ◌∙◌, append-nil}
 use Rattle.std.proofs.lemmas.Result.{on_ok_weaker}
-use Rattle.kc_changes.specs.Changed.{AreIdChanges, lines_behind}
+use Rattle.kc_changes.specs.Changed.{AreIdChanges, facts_behind}
 use Rattle.kc_changes.specs.declared.id_change.IdChange.{IdChange}
 use Rattle.kc_changes.specs.declared.show.Show.{Show}
 use Rattle.kc_keeper.specs.declared.changes.CoreChange.{CoreChange}
+use Rattle.kc_reply.specs.Texts.{facts_text}
 use Rattle.kc_watch.specs.Accounts.{core_number_in, core_numbers_of}
 use Rattle.kc_watch.specs.Endings.{changes_of}
 use Rattle.kc_watch.proofs.Accounts.{numbers-alone}
@@ -13,7 +14,8 @@ use Rattle.kc_watch.proofs.kept.Kept.put_behind.Goals as goal
 
 pub returns-then-is_brief-clause-ok : goal.returns-then-is_brief-clause-ok
 returns-then-is_brief-clause-ok c = λ before after h.
-    sym (ap₂ (λ (s : Show) (k : Option ℕ). c.args.out.now.items ++ lines_behind s k (core_number_in before) (core_number_in after) after.ids)
+    sym (ap₂ (λ (s : Show) (k : Option ℕ). c.args.out.now.items
+    ++ facts_text c.args.options.format (facts_behind s k (core_number_in before) (core_number_in after) after.ids))
     (c.is_brief.ensures.show c.if-is_brief.true) (c.is_brief.ensures.enter c.if-is_brief.true) ∙ append-nil c.args.out.now.items)
 
 pub changes_of-requires-clause-long : goal.changes_of-requires-clause-long

@@ -2,8 +2,10 @@
 use Rattle.std.proofs.Common.{◌≡◌, ◌++◌, [], ℕ, List, ap, refl, sym, ◌∙◌, append-nil, append_assoc, arith, true, false}
 use Rattle.std.specs.Prelude.{is_some}
 use Rattle.kc_watch.specs.Text.{reply, reply_at_end}
-use Rattle.kc_watch.proofs.Fed.{end-answers, end-broken, end-refusal, end-refused, heard_by, refused-ended, stays}
-use Rattle.kc_watch.proofs.Lines.{going-heard, on-both, on-err}
+use Rattle.kc_watch.proofs.Fed.{end-answers, end-broken, end-keeps, end-refusal, end-refused, heard_by, refused-ended, stays}
+use Rattle.std.proofs.lemmas.Bool.{true≢false}
+use Rattle.std.proofs.lemmas.Result.{on_ok_weaker}
+use Rattle.kc_watch.proofs.Lines.{on-err}
 use Rattle.kc_lists.proofs.Results.{none-from}
 use Rattle.kc_watch.proofs.watcher.WatcherReplier.end.Goals as goal
 
@@ -47,8 +49,11 @@ returns-then-is_some-2 c =
     let (put, out, adds) = c.in_ok-read.ensures.put in
     record {
       settings = refl;
-      ended = λ fed f. end-refusal c.args.self.now (none-from _ going) c.deref.result.now c.deref.ensures.value fed f c.read.new.self.gathered c.read.new.self
-          (c.in_ok-read.ensures.stands (heard_by c.args.self.now fed f) f.stands) refl;
+      ended = λ fed f.
+          let s = c.in_ok-read.ensures.stands (heard_by c.args.self.now fed f) f.stands in
+          let told = end-refusal c.args.self.now (none-from _ going) c.deref.result.now c.deref.ensures.value fed f c.read.new.self.gathered c.read.new.self
+          s refl in
+          (told.0, told.1, λ none. absurd (true≢false (sym some ∙ ap is_some none)));
       put = (
         put,
         out,
@@ -78,9 +83,16 @@ returns c =
     let (more, out', adds') = c.end_open.ensures.put in
     record {
       settings = refl;
-      ended = (on-both c.end_open.result _ (Unit {0})
-          (λ fed f. end-refusal c.args.self.now (none-from _ before) c.deref.result.now c.deref.ensures.value fed f c.end_open.new.self.gathered c.read.new.self
-          (c.in_ok-read.ensures.stands (heard_by c.args.self.now fed f) f.stands) c.end_open.ensures.gathered) tt).0;
+      ended = on_ok_weaker c.end_open.result (λ keeps fed f.
+          let s = c.in_ok-read.ensures.stands (heard_by c.args.self.now fed f) f.stands in
+          let none = none-from _ before in
+          let is = c.deref.ensures.value in
+          let told = end-refusal c.args.self.now none c.deref.result.now is fed f c.end_open.new.self.gathered c.read.new.self s
+          c.end_open.ensures.gathered in (
+            told.0,
+            told.1,
+            λ _. end-keeps c.args.self.now none c.deref.result.now is fed f c.end_open.new.self c.read.new.self s going c.end_open.ensures.gathered (keeps _ s),
+          )) c.end_open.ensures.keeps;
       put = (
         put ++ more,
         out' ∙ ap (λ (t : List ℕ). t ++ more) out ∙ append_assoc c.args.out.now.items put more,

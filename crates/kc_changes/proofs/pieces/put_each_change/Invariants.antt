@@ -1,0 +1,12 @@
+-- The lines of the changes so far were put.
+use Rattle.std.proofs.Common.{◌≡◌, ◌++◌, take}
+use Rattle.std.specs.Io.{StartsWith}
+use Rattle.std.specs.List.{flat_map}
+use Rattle.kc_changes.specs.Telling.{change_text}
+use Rattle.kc_changes.proofs.pieces.put_each_change.Given as goal
+
+abbrev pub invariant-loop-change : goal.invariant-loop-change
+invariant-loop-change l = record {
+  kept : StartsWith l.out.items l.fn.out.items;
+  so_far : l.out.items ≡ l.fn.out.items ++ flat_map (change_text l.format) (take l.change-index l.changes);
+}
