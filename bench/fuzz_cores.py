@@ -182,10 +182,10 @@ def fault_of(neighbours, claims):
     for line, v, number, *_ in claims:
         behind = sum(told[w] > told[v] for w in neighbours[v])
         if behind > number:
-            return v, f"line {line}: id {v} is told core number {number}, but {behind} neighbours stand behind it; cores order writes a certificate\n"
+            return v, f"line {line}: id {v} is told core number {number}, but has more neighbours after it: {behind}; write it by cores order\n"
         beside = sum(told[w][0] >= number for w in neighbours[v])
         if beside < number:
-            return v, f"line {line}: id {v} is told core number {number}, but only {beside} neighbours are told as much or more\n"
+            return v, f"line {line}: id {v} is told core number {number}, but has fewer neighbours told as much or more: {beside}\n"
     return None
 
 

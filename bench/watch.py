@@ -9,22 +9,29 @@ next piece. An answer that does not come within the time, that is wrong or that 
 the status is then 1. Short streams are cut at each byte. The streams name new ids in late batches, and some have lines that are refused:
 then the program has to end by itself, with status 3 and the line that tells the refusal, though the pipe stays open. With `--bad-lines batch`,
 as half of them have it, it has to drop the batch of such a line and go on, and to tell at its end how many it dropped. Each stream also ends
-without a last newline. Among the changes stand questions, of known ids and others. Half of them are watched with `--show changes`, and a third with `--enter K`. At the end it tries a reader that goes away (`| head -1`), a folder as standard input, and /dev/full.
+without a last newline. Among the changes stand questions, of known ids and others. Half of them are watched with `--show changes`, most with
+`--enter K`, and a third with `--format json`: there the model writes each line in words as an object. In a third of them the front of the
+stream, cut anywhere, is a file that `--from` names. At the end it tries files that can't stand in front, a reader that goes away
+(`| head -1`), a folder as standard input, and /dev/full.
 """
 import argparse
 import collections
+import json
 import os
 import pathlib
 import random
 import select
 import subprocess
 import sys
+import tempfile
 import time
 
 import differ
 import fuzz
 
 HERE = pathlib.Path(__file__).resolve().parent
+# The file in front of a stream, in the folder where the program runs.
+START = "start.txt"
 SENTENCES = {
     1: "a field is not a whole number; write ids of decimal digits, or begin the line with # if it is a comment",
     2: "a number is missing; write two ids with a blank or a tab between them, or in a question ? ID, ? core K or ? order A B",
@@ -53,15 +60,40 @@ def two_numbers_of(fields):
     return [fuzz.number_of(fields[0]), number_of(fields[1:])]
 
 
-class Options:
-    """What is asked for behind the line of a batch, and whether a refused line drops its batch."""
+def object_of(line):
+    """What a line of words tells, as an object."""
+    word, *rest = line.split()
+    numbers = [None if field == "-" else int(field) for field in rest if field == "-" or field.isdecimal()]
+    if word in ("graph", "batch"):
+        fields = rest if word == "graph" else [word, *rest]
+        return {"event": word} | dict(zip(fields[::2], map(int, fields[1::2])))
+    if word == "refused":
+        return {"event": word} | dict(zip(("batch", "line", "kind"), numbers)) | {"name": rest[-1]}
+    if word == "members":
+        return {"event": word, "core": numbers[0], "ids": numbers[1:]}
+    if word == "sizes":
+        return {"event": word, "sizes": [{"core": core, "vertices": count} for core, count in zip(numbers[::2], numbers[1::2])]}
+    if word == "order":
+        return {"event": word, "first": numbers[0], "second": numbers[1], "order": None if rest[2] == "-" else rest[2]}
+    if word == "core":
+        return {"event": word, "id": numbers[0], "core": numbers[1]}
+    return {"event": word, "id": numbers[0]} if rest[1:] == [] else {"event": "change", "id": int(word), "old": numbers[0], "new": numbers[1]}
 
-    def __init__(self, changes=False, enter=None, drops=False):
-        self.changes, self.enter, self.drops = changes, enter, drops
+
+class Options:
+    """What is asked for behind the line of a batch, whether a refused line drops its batch, whether lines are objects, and the text of the file in
+    front of the stream, if there is one."""
+
+    def __init__(self, changes=False, enter=None, drops=False, objects=False, start=None):
+        self.changes, self.enter, self.drops, self.objects, self.start = changes, enter, drops, objects, start
 
     def words(self):
         words = ["--show", "changes"] * self.changes + (["--enter", str(self.enter)] if self.enter is not None else [])
-        return words + ["--bad-lines", "batch"] * self.drops
+        words += ["--bad-lines", "batch"] * self.drops + ["--format", "json"] * self.objects
+        return words + ["--from", START] * (self.start is not None)
+
+    def text_of(self, line):
+        return (json.dumps(object_of(line), separators=(",", ":")) if self.objects else line).encode() + b"\n"
 
     def lines(self, before, after):
         """The lines about the ids whose core numbers change; both are core numbers by id."""
@@ -81,6 +113,10 @@ class Model:
         self.options, self.cores = options, {}
         self.known, self.dropped, self.refused_batches = set(), None, 0
         self.reader, self.edges, self.text, self.begun, self.lines, self.refusal = fuzz.Reader(), set(), b"", b"", 0, None
+        self.front, self.file = 0, f"{START}: "
+        if options.start:
+            self.feed(options.start + b"\n" * (not options.start.endswith(b"\n")))
+        self.front, self.file = self.lines, ""
 
     def feed(self, piece):
         *whole, self.begun = (self.begun + piece).split(b"\n")
@@ -116,7 +152,7 @@ class Model:
     def refuse(self, kind):
         """The line ends the answers, or drops its batch; in a batch that is dropped only the first such line counts."""
         if not (self.options.drops and self.reader.batches):
-            self.refusal = f"cores: line {self.lines}: {SENTENCES[kind]}\n".encode()
+            self.refusal = f"cores: {self.file}line {self.lines - self.front}: {SENTENCES[kind]}\n".encode()
         elif not self.dropped:
             self.dropped = f"line {self.lines} kind {kind} {fuzz.NAMES[kind]}"
             self.refused_batches += 1
@@ -145,7 +181,7 @@ class Model:
             words = ["sizes", *(n for pair in sorted(collections.Counter(self.cores.values()).items()) for n in pair)]
         else:
             words = ["core", number, self.cores.get(number, "-")]
-        self.text += " ".join(map(str, words)).encode() + b"\n"
+        self.text += self.options.text_of(" ".join(map(str, words)))
 
     def order_of(self, a, b):
         """Where the first id stands to the second, in the order by core number, layer and id."""
@@ -180,7 +216,7 @@ class Model:
             lines, self.dropped = [f"refused batch {number} {self.dropped}"], None
         else:
             lines = [self.end_batch(number, self.reader.batches[number - 1])] + self.options.lines(before, self.cores)
-        self.text += b"".join(line.encode() + b"\n" for line in lines)
+        self.text += b"".join(map(self.options.text_of, lines))
 
     def count_cores(self):
         self.cores = {id: 0 for id in self.reader.ids} | differ.core_numbers(sorted(self.reader.ids), self.edges)
@@ -261,8 +297,9 @@ class Wrong(Exception):
 class Talk:
     """A run of the program, to which is written while its answers are read."""
 
-    def __init__(self, program, seconds, words=()):
-        self.process = subprocess.Popen([program, "watch", *words], stdin=subprocess.PIPE, stdout=subprocess.PIPE, stderr=subprocess.PIPE, bufsize=0)
+    def __init__(self, program, seconds, words=(), folder=None):
+        self.process = subprocess.Popen(
+            [program, "watch", *words], stdin=subprocess.PIPE, stdout=subprocess.PIPE, stderr=subprocess.PIPE, bufsize=0, cwd=folder)
         self.seconds, self.got, self.open = seconds, b"", True
 
     def send(self, piece):
@@ -301,13 +338,16 @@ class Talk:
             stream.close()
 
 
-def converse(program, options, pieces, seconds):
-    """Sends the pieces one by one, each after the answer to those before."""
-    model, talk = Model(options), Talk(program, seconds, options.words())
+def converse(program, options, pieces, seconds, folder):
+    """Sends the pieces one by one, each after the answer to those before; the first after what the file in front of them is answered."""
+    if options.start is not None:
+        (folder / START).write_bytes(options.start)
+    model, talk = Model(options), Talk(program, seconds, options.words(), folder)
     try:
-        for piece in pieces:
-            talk.send(piece)
-            model.feed(piece)
+        for piece in (b"", *pieces):
+            if piece:
+                talk.send(piece)
+                model.feed(piece)
             talk.expect(model.text)
             if model.refusal:
                 talk.finish(3, model.message())
@@ -325,9 +365,9 @@ def converse(program, options, pieces, seconds):
 
 # Streams that fail.
 
-def run_with(program, data, stdin=None, stdout=subprocess.PIPE):
+def run_with(program, data, stdin=None, stdout=subprocess.PIPE, words=()):
     given = {"stdin": stdin} if stdin else {"input": data}
-    done = subprocess.run([program, "watch"], stdout=stdout, stderr=subprocess.PIPE, timeout=60, check=False, **given)
+    done = subprocess.run([program, "watch", *words], stdout=stdout, stderr=subprocess.PIPE, timeout=60, check=False, **given)
     return done.returncode, done.stderr
 
 
@@ -337,7 +377,16 @@ def try_faults(program, seconds):
     os.close(folder)
     with open("/dev/full", "wb") as full:
         check("/dev/full as output", run_with(program, b"1 2\n", stdout=full), (5, b"cores: the output could not be written to its end\n"))
+    try_starts(program)
     try_reader_gone(program, seconds)
+
+
+def try_starts(program):
+    """Files that can not stand in front of a stream: nothing of the stream is answered."""
+    missing = run_with(program, b"1 2\nbatch\n", words=["--from", "no such file"])
+    check("a file that is missing", missing, (4, b"cores: no such file: No such file or directory\n"))
+    check("a folder in front", run_with(program, b"1 2\n", words=["--from", str(HERE)]), (4, f"cores: {HERE}: Is a directory\n".encode()))
+    check("standard input in front of itself", run_with(program, b"1 2\n", words=["--from", "-"])[0], 2)
 
 
 def try_reader_gone(program, seconds):
@@ -371,15 +420,21 @@ CASES = (
 
 def cases_of(seed, count):
     """Each stream above cut at each byte, and then random ones."""
-    for options in (Options(), Options(True), Options(True, 1), Options(True, drops=True)):
+    for options in (Options(), Options(True), Options(True, 1), Options(True, drops=True), Options(True, 2, True, True)):
         for data in CASES:
+            for at in (0, len(data) // 2, len(data)):
+                yield Options(options.changes, options.enter, options.drops, options.objects, data[:at]), [data[at:]] if data[at:] else []
             yield options, [data[at:at + 1] for at in range(len(data))]
             for at in range(len(data) + 1):
                 yield options, [piece for piece in (data[:at], data[at:]) if piece]
     for number in range(count):
         rng = random.Random(f"{seed} {number}")
-        options = Options(rng.random() < 0.5, rng.choice((None, None, 0, 1, 2, 3)), rng.random() < 0.5)
-        yield options, pieces_of(rng, random_stream(rng, (0, 1, 2, 5) if options.drops else (0, 0, 1)))
+        options = Options(rng.random() < 0.5, rng.choice((None, None, 0, 1, 2, 3)), rng.random() < 0.5, rng.random() < 0.35)
+        data = random_stream(rng, (0, 1, 2, 5) if options.drops else (0, 0, 1))
+        if rng.random() < 0.3:
+            at = rng.randrange(len(data) + 1)
+            options.start, data = data[:at], data[at:]
+        yield options, pieces_of(rng, data)
 
 
 def main():
@@ -389,16 +444,22 @@ def main():
     parser.add_argument("--cases", type=int, default=1000)
     parser.add_argument("--seconds", type=float, default=10, help="how long an answer may take")
     given = parser.parse_args()
+    program = str(pathlib.Path(given.cores).resolve())
+    with tempfile.TemporaryDirectory() as name:
+        return try_all(given, program, pathlib.Path(name))
+
+
+def try_all(given, program, folder):
     number, answers = 0, 0
     for number, (options, pieces) in enumerate(cases_of(given.seed, given.cases), 1):
         try:
-            converse(given.cores, options, pieces, given.seconds)
+            converse(program, options, pieces, given.seconds, folder)
         except Wrong as wrong:
-            print(f"case {number}: {wrong}\nwords: {options.words()}\npieces: {pieces!r}")
+            print(f"case {number}: {wrong}\nwords: {options.words()}\nfile in front: {options.start!r}\npieces: {pieces!r}")
             return 1
         answers += len(pieces)
     try:
-        try_faults(given.cores, given.seconds)
+        try_faults(program, given.seconds)
     except Wrong as wrong:
         print(wrong)
         return 1
