@@ -10,7 +10,8 @@ use Rattle.kc_words.specs.declared.group.GroupWord.{GroupWord}
 use Rattle.kc_relabel.specs.Labels.{Ascends, written, places}
 use Rattle.kc_relabel.proofs.Rising.{Writes}
 use Rattle.kc_relabel.proofs.Once.{Distinct-at, place_at, length-places}
-use Rattle.kc_list.specs.Sheets.{ChangesOnly, Paper, WritesKeepOrder, version}
+use Rattle.kc_list.specs.Sheets.{Paper, version}
+use Rattle.kc_list.specs.Retops.{Topway}
 use Rattle.kc_list.specs.declared.sheet.Write.{Write}
 use Rattle.kc_list.proofs.Putting.{ordered_from}
 use Rattle.kc_list.proofs.Splits.{same_version}
@@ -221,19 +222,6 @@ pub group_range : (n : ℕ) (ws list gs : List ℕ) (i : ℕ) → WordsKeepList 
 group_range n ws list gs i s e l =
     let from = runs_item (labels n ws).group (get_or gs i 0) list (ap (member (get_or gs i 0)) (sym e) ∙ member-get_or gs i 0 l) in
     (omega (arith, from.2, (s.inside from.0 from.1).group_low), omega (arith, from.2, (s.inside from.0 from.1).group_high))
-
--- after j steps of a schedule
-pub record Topway (n : ℕ) (list : List ℕ) (p q : Paper) (gs : List ℕ) (ss : Writes) (j : ℕ) : Type 0 where
-  pub sound : WordsKeepList n q.words list
-  pub groups : gs ≡ runs (labels n q.words).group list
-  pub tops : map (labels n q.words).top gs ≡ written (map (labels n p.words).top gs) (take j ss)
-  pub steps : WritesKeepOrder n list p q
-  pub versions : (w : ℕ) → version q.words w ≤ version p.words w + 1
-  pub only : ChangesOnly (map (λ g. n + g) gs) p.words q.words
-  pub waiting : (k : ℕ) → j ≤ k → k < length ss
-      → version q.words (n + get_or gs (get_or ss k (0, 0)).0 0) ≡ version p.words (n + get_or gs (get_or ss k (0, 0)).0 0)
-  pub length_is : length q.writes ≡ length p.writes + j
-  pub room : q.room ≡ p.room
 
 -- at first no step of a schedule for the groups is done
 pub topway-none : (n : ℕ) (list : List ℕ) (p : Paper) (gs : List ℕ) (ss : Writes) → WordsKeepList n p.words list → gs ≡ runs (labels n p.words).group list

@@ -9,3 +9,4 @@ pub mod Opening
 pub mod Soundness
 pub mod Rewriting
 pub mod Scheduling
+pub mod Retops

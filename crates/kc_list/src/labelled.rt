@@ -41,7 +41,7 @@ impl LabelledList {
         GroupWord::of(self.sheet.word(self.links.size() + g))
     }
 
-    /// WritesWord the word of an item, by which the labels still order the list.
+    /// Writes the word of an item, by which the labels still order the list.
     pub fn store_item(&mut self, x: u32, word: ItemWord)
         requires x_in { x < self.old.links.size }
         requires fits { IsFitting word }
@@ -54,7 +54,7 @@ impl LabelledList {
         self.sheet.store(1 + x, word.pack());
     }
 
-    /// WritesWord the word of a group, by which the labels still order the list.
+    /// Writes the word of a group, by which the labels still order the list.
     pub fn store_group(&mut self, g: u32, word: GroupWord)
         requires low { 0 < g }
         requires within { g ≤ self.old.links.size + 1 }

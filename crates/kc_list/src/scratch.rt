@@ -14,21 +14,14 @@ use std::marker::Model;
 #[derive(Drop)]
 pub struct GroupRoom {
     groups: Vec<u32>,
-    before: Vec<u64>,
-    after: Vec<u64>,
-    steps: Vec<(u32, u64)>,
 }
 
 impl Model for GroupRoom {
-    ghost use Rattle.std.specs.Prelude.{ℕ, length, ◌≡◌};
+    ghost use Rattle.std.specs.Prelude.{ℕ, length};
 
     ghost Value = { ℕ };
 
     ghost view = { λ a. length a.groups.items };
-
-    ghost invariant = { λ a. (length a.before.items ≡ length a.groups.items)
-        × (length a.after.items ≡ length a.groups.items)
-        × (length a.steps.items ≡ length a.groups.items) };
 }
 
 impl GroupRoom {
@@ -36,15 +29,7 @@ impl GroupRoom {
         ensures { IfOk result (λ a. a ≡ count) }
     {
         let groups = vec![in alloc; 0u32; count]?;
-        let before = vec![in alloc; 0u64; count]?;
-        let after = vec![in alloc; 0u64; count]?;
-        let steps = vec![in alloc; (0u32, 0u64); count]?;
-        Ok(GroupRoom {
-            groups,
-            before,
-            after,
-            steps,
-        })
+        Ok(GroupRoom { groups })
     }
 
     /// Spreads the labels of all groups evenly, store by store.
@@ -57,12 +42,6 @@ impl GroupRoom {
         ensures spread { SpreadsTops list.old list.new }
         ensures relabels { Relabels list.old.links.size list.old list.new }
     {
-        let GroupRoom {
-            groups,
-            before,
-            after,
-            steps,
-        } = self;
-        list.spread_tops_in(groups, before, after, steps);
+        list.spread_tops_in(&mut self.groups);
     }
 }

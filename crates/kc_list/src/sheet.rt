@@ -59,7 +59,7 @@ impl Sheet {
         self.words[word as usize]
     }
 
-    /// WritesWord a value, and notes the write.
+    /// Writes a value, and notes the write.
     pub fn store(&mut self, word: u32, value: u64)
         requires low { 0 < word }
         requires word_in { word < length self.old.words }

@@ -10,7 +10,7 @@ use kc_relabel::spread;
 use kc_words::{BOTTOM_ROOM, GroupWord, ItemWord, LAST_VERSION};
 
 impl LabelledList {
-    /// WritesWord the word of the upper member at a place with its new group and label.
+    /// Writes the word of the upper member at a place with its new group and label.
     fn move_up(&mut self, cut: Cut, place: u32)
         requires place_in { place < length cut.ups.now }
         requires waits { HaveMoved self.old.links self.old.sheet cut.group cut.fresh cut.low.now cut.ups.now (place + 1) }
@@ -48,7 +48,7 @@ impl LabelledList {
         }
     }
 
-    /// WritesWord the label of the new group, which no item has yet.
+    /// Writes the label of the new group, which no item has yet.
     fn store_top(&mut self, cut: Cut, top: u64)
         requires segment { AreMembers self.old.links self.old.sheet cut.group (cut.low.now ++ cut.ups.now) }
         requires fresh { IsSpare self.old.links self.old.sheet cut.fresh }

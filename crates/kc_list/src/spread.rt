@@ -39,7 +39,7 @@ pub fn schedule_evenly(room: u64, old: &[u64], even: &mut [u64], steps: &mut [(u
 }
 
 impl LabelledList {
-    /// WritesWord the word of one member with another label.
+    /// Writes the word of one member with another label.
     fn relabel(&mut self, members: &[u32], group: u32, place: u32, label: u64)
         requires segment { AreMembers self.old.links self.old.sheet group members.now }
         requires place_in { place < length members.now }
@@ -61,7 +61,7 @@ impl LabelledList {
         self.store_item(y, new);
     }
 
-    /// WritesWord new labels in the order of a schedule.
+    /// Writes new labels in the order of a schedule.
     fn relabel_all(&mut self, members: &[u32], group: u32, steps: &[(u32, u64)])
         requires segment { AreMembers self.old.links self.old.sheet group members.now }
         requires schedule { IsSchedule BOTTOM_ROOM (map (bottom_at self.old.links self.old.sheet) members.now) steps.now }

@@ -1,18 +1,18 @@
 //! New labels for all groups, one store after another.
 ghost use Rattle.std.specs.Prelude.{◌≡◌, ◌<◌, ◌≤◌, ◌+◌, ℕ, length, slice_index, slice_set, take, map, true};
 ghost use Rattle.kc_lists.specs.Lists.{member};
-ghost use Rattle.kc_relabel.specs.Labels.{Ascends, written};
+ghost use Rattle.kc_relabel.specs.Labels.{Ascends};
 ghost use Rattle.kc_list.specs.Sheets.{ChangesOnly};
 ghost use Rattle.kc_list.specs.Views.{top_at, groups_in_use, version_at, evenly};
-ghost use Rattle.kc_list.specs.Scheduling.{IsSchedule, SpreadsEvenly};
+ghost use Rattle.kc_list.specs.Retops.{IsEvened, IsRaised, MayRetop};
 ghost use Rattle.kc_list.specs.Rewriting.{Relabels, StoresWord, SpreadsTops};
 
 use crate::labelled::LabelledList;
-use crate::spread::schedule_evenly;
+use kc_relabel::spread;
 use kc_words::{GroupWord, LAST_VERSION, TOP_ROOM};
 
 impl LabelledList {
-    /// WritesWord the word of one group with another label.
+    /// Writes the word of one group with another label.
     fn retop(&mut self, groups: &[u32], place: u32, label: u64)
         requires groups { groups.now ≡ groups_in_use self.old.links self.old.sheet }
         requires place_in { place < length groups.now }
@@ -33,21 +33,33 @@ impl LabelledList {
         self.store_group(number, new);
     }
 
-    /// WritesWord new labels in the order of a schedule.
-    fn retop_all(&mut self, groups: &[u32], steps: &[(u32, u64)])
-        requires groups { groups.now ≡ groups_in_use self.old.links self.old.sheet }
-        requires schedule { IsSchedule TOP_ROOM (map (top_at self.old.links self.old.sheet) groups.now) steps.now }
-        requires version { (g : ℕ) → member g groups.now ≡ true
-            → version_at self.old.sheet (self.old.links.size + g) < LAST_VERSION }
-        requires room { length self.old.sheet.writes + length steps.now ≤ self.old.sheet.room }
-        ensures groups { groups.now ≡ groups_in_use self.old.links self.new.sheet }
-        ensures tops { map (top_at self.old.links self.new.sheet) groups.now ≡
-            written (map (top_at self.old.links self.old.sheet) groups.now) steps.now }
-        ensures only { ChangesOnly (map (λ g. self.old.links.size + g) groups.now) self.old.sheet.words self.new.sheet.words }
-        ensures relabels { Relabels (length steps.now) self.old self.new }
+    /// Gives each group whose label is below that at even distances this label, from the last group to the first.
+    fn raise_tops(&mut self, groups: &[u32])
+        requires may { MayRetop self.old groups.now }
+        ensures raised { IsRaised groups.now self.old self.new }
     {
-        for (place, label) in steps {
-            self.retop(groups, *place, *label);
+        let count = groups.len() as u32;
+        let mut left = groups.len();
+        while left > 0 {
+            left -= 1;
+            let even = spread(count, TOP_ROOM, left as u32);
+            if self.group(groups[left]).top < even {
+                self.retop(groups, left as u32, even);
+            }
+        }
+    }
+
+    /// Gives each group whose label is above that at even distances this label, from the first group to the last. The others have been raised.
+    fn lower_tops(&mut self, groups: &[u32])
+        requires raised { (start : LabelledList) × IsRaised groups.now start self.old }
+        ensures evened { (start : LabelledList) → IsRaised groups.now start self.old → IsEvened groups.now start self.new }
+    {
+        let count = groups.len() as u32;
+        for place in 0..groups.len() {
+            let even = spread(count, TOP_ROOM, place as u32);
+            if even < self.group(groups[place]).top {
+                self.retop(groups, place as u32, even);
+            }
         }
     }
 
@@ -72,71 +84,21 @@ impl LabelledList {
         count
     }
 
-    /// The labels of the groups.
-    fn read_tops(&self, groups: &[u32], into: &mut [u64])
-        requires length { length into.old ≡ length groups.now }
-        requires within { (g : ℕ) → member g groups.now ≡ true → g ≤ self.now.links.size + 1 }
-        ensures { into.new ≡ map (top_at self.now.links self.now.sheet) groups.now }
-    {
-        for i in 0..groups.len() {
-            into[i] = self.group(groups[i]).top;
-        }
-    }
-
-    /// The steps that spread the groups evenly, with room for the labels.
-    fn plan_tops(
-        &self,
-        groups: &[u32],
-        old: &mut [u64],
-        even: &mut [u64],
-        steps: &mut [(u32, u64)],
-    ) -> usize
-        requires groups { groups.now ≡ groups_in_use self.now.links self.now.sheet }
-        requires old_length { length old.old ≡ length groups.now }
-        requires even_length { length even.old ≡ length groups.now }
-        requires steps_length { length steps.old ≡ length groups.now }
-        ensures spreads { SpreadsEvenly TOP_ROOM (map (top_at self.now.links self.now.sheet) groups.now) (take result steps.new) }
-        ensures used { result ≤ length steps.old }
-    {
-        self.read_tops(groups, old);
-        schedule_evenly(TOP_ROOM, old, even, steps)
-    }
-
-    /// Spreads the labels of the groups evenly, with room for the labels and the steps.
-    fn spread_tops_with(
-        &mut self,
-        groups: &[u32],
-        old: &mut [u64],
-        even: &mut [u64],
-        steps: &mut [(u32, u64)],
-    )
-        requires groups { groups.now ≡ groups_in_use self.old.links self.old.sheet }
-        requires lengths { (length old.old ≡ length groups.now) × (length even.old ≡ length groups.now) × (length steps.old ≡ length groups.now) }
-        requires version { (g : ℕ) → member g groups.now ≡ true
-            → version_at self.old.sheet (self.old.links.size + g) < LAST_VERSION }
-        requires room { length self.old.sheet.writes + length groups.now ≤ self.old.sheet.room }
+    /// Spreads the labels of the groups evenly.
+    fn even_tops(&mut self, groups: &[u32])
+        requires may { MayRetop self.old groups.now }
         ensures groups { groups.now ≡ groups_in_use self.old.links self.new.sheet }
         ensures tops { map (top_at self.old.links self.new.sheet) groups.now ≡ evenly (length groups.now) TOP_ROOM }
         ensures only { ChangesOnly (map (λ g. self.old.links.size + g) groups.now) self.old.sheet.words self.new.sheet.words }
         ensures relabels { Relabels (length groups.now) self.old self.new }
     {
-        let used = self.plan_tops(groups, old, even, steps);
-        self.retop_all(groups, &steps[..used]);
+        self.raise_tops(groups);
+        self.lower_tops(groups);
     }
 
-    /// Spreads the labels of all groups evenly, store by store. The four slices are room for the work,
-    /// of one length.
-    pub fn spread_tops_in(
-        &mut self,
-        groups: &mut [u32],
-        before: &mut [u64],
-        after: &mut [u64],
-        steps: &mut [(u32, u64)],
-    )
+    /// Spreads the labels of all groups evenly, store by store, with room for the numbers of the groups.
+    pub fn spread_tops_in(&mut self, groups: &mut [u32])
         requires groups_room { self.old.links.size ≤ length groups.old }
-        requires before_length { length before.old ≡ length groups.old }
-        requires after_length { length after.old ≡ length groups.old }
-        requires steps_length { length steps.old ≡ length groups.old }
         requires version { (g : ℕ) → 0 < g → g ≤ self.old.links.size + 1
             → version_at self.old.sheet (self.old.links.size + g) < LAST_VERSION }
         requires room { length self.old.sheet.writes + self.old.links.size ≤ self.old.sheet.room }
@@ -144,11 +106,6 @@ impl LabelledList {
         ensures relabels { Relabels self.old.links.size self.old self.new }
     {
         let count = self.collect_groups(groups);
-        self.spread_tops_with(
-            &groups[..count],
-            &mut before[..count],
-            &mut after[..count],
-            &mut steps[..count],
-        );
+        self.even_tops(&groups[..count]);
     }
 }

@@ -17,7 +17,7 @@ place-named : (i b p : ℕ) (t : Bool) → t ≡ true → p ≡ i → member p (
 place-named i b p t e is = ap (λ u. member p (places (cond u ((i, b) ∷ []) []))) e ∙ (ap (λ q. member q (i ∷ [])) is ∙ member-head i [])
 
 -- a place that the first loop names has a label that grows
-named-grows : (i : ℕ) (os ns : List ℕ) (p : ℕ) → member p (places (ups i os ns)) ≡ true → (q : ℕ) × (p ≡ i + q) × (get_or os q 0 < get_or ns q 0)
+pub named-grows : (i : ℕ) (os ns : List ℕ) (p : ℕ) → member p (places (ups i os ns)) ≡ true → (q : ℕ) × (p ≡ i + q) × (get_or os q 0 < get_or ns q 0)
 named-grows i [] ns p m = absurd (false≢true m)
 named-grows i (a ∷ os) [] p m = absurd (false≢true m)
 named-grows i (a ∷ os) (b ∷ ns) p m =

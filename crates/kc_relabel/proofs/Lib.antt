@@ -1,3 +1,4 @@
 pub mod Rising
 pub mod Once
 pub mod Differing
+pub mod Stepping

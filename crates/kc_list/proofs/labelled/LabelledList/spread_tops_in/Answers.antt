@@ -17,20 +17,22 @@ collect_groups-count-requires c =
       c.requires.groups_room,
     )
 
-pub spread_tops_with-requires-clause-version : goal.spread_tops_with-requires-clause-version
-spread_tops_with-requires-clause-version c g m = let r =
-    group_in c.args.self.now.links.size c.args.self.now.sheet.words c.args.self.now.links.list
-    (take c.collect_groups-count.result c.collect_groups-count.new.into) g
-    c.args.self.now.sound c.collect_groups-count.ensures.groups m in c.requires.version g r.0 r.1
-
-pub spread_tops_with-requires-clause-room : goal.spread_tops_with-requires-clause-room
-spread_tops_with-requires-clause-room c =
-    omega (
+pub even_tops-requires : goal.even_tops-requires
+even_tops-requires c = record {
+  may = record {
+    groups = c.collect_groups-count.ensures.groups;
+    version = λ g m.
+        let r = group_in c.args.self.now.links.size c.args.self.now.sheet.words c.args.self.now.links.list
+        (take c.collect_groups-count.result c.collect_groups-count.new.into) g c.args.self.now.sound c.collect_groups-count.ensures.groups m in
+        c.requires.version g r.0 r.1;
+    room = omega (
       arith,
       groups_few c.args.self.now.links.size c.args.self.now.sheet.words c.args.self.now.links.list
           (take c.collect_groups-count.result c.collect_groups-count.new.into) c.args.self.now.sound c.collect_groups-count.ensures.groups,
       c.requires.room,
-    )
+    );
+  };
+}
 
 pub returns-clause-spread : goal.returns-clause-spread
 returns-clause-spread c =
@@ -41,20 +43,20 @@ returns-clause-spread c =
       c.args.self.now.small,
     ) in
     let P : List ℕ → Type 0 = λ gs. ChangesOnly (map (λ g. c.args.self.now.links.size + g) gs) c.args.self.now.sheet.words
-    c.spread_tops_with.new.self.sheet.words in
+    c.even_tops.new.self.sheet.words in
     record {
-      gaps = λ g m h m' lt. (tops_gaps (labels c.args.self.now.links.size c.spread_tops_with.new.self.sheet.words).top
+      gaps = λ g m h m' lt. (tops_gaps (labels c.args.self.now.links.size c.even_tops.new.self.sheet.words).top
           (take c.collect_groups-count.result c.collect_groups-count.new.into)
-          (runs (labels c.args.self.now.links.size c.spread_tops_with.new.self.sheet.words).group c.args.self.now.links.list) g h
-          c.spread_tops_with.ensures.groups few c.spread_tops_with.ensures.tops m).1 m' lt;
-      high = λ g m. (tops_gaps (labels c.args.self.now.links.size c.spread_tops_with.new.self.sheet.words).top
+          (runs (labels c.args.self.now.links.size c.even_tops.new.self.sheet.words).group c.args.self.now.links.list) g h
+          c.even_tops.ensures.groups few c.even_tops.ensures.tops m).1 m' lt;
+      high = λ g m. (tops_gaps (labels c.args.self.now.links.size c.even_tops.new.self.sheet.words).top
           (take c.collect_groups-count.result c.collect_groups-count.new.into)
-          (runs (labels c.args.self.now.links.size c.spread_tops_with.new.self.sheet.words).group c.args.self.now.links.list) g g
-          c.spread_tops_with.ensures.groups few c.spread_tops_with.ensures.tops m).0;
-      only = subst P c.collect_groups-count.ensures.groups c.spread_tops_with.ensures.only;
+          (runs (labels c.args.self.now.links.size c.even_tops.new.self.sheet.words).group c.args.self.now.links.list) g g
+          c.even_tops.ensures.groups few c.even_tops.ensures.tops m).0;
+      only = subst P c.collect_groups-count.ensures.groups c.even_tops.ensures.only;
     }
 
 pub returns-clause-relabels : goal.returns-clause-relabels
-returns-clause-relabels c = writes-fewer c.args.self.now c.spread_tops_with.new.self _ c.args.self.now.links.size c.spread_tops_with.ensures.relabels
+returns-clause-relabels c = writes-fewer c.args.self.now c.even_tops.new.self _ c.args.self.now.links.size c.even_tops.ensures.relabels
     (groups_few c.args.self.now.links.size c.args.self.now.sheet.words c.args.self.now.links.list
     (take c.collect_groups-count.result c.collect_groups-count.new.into) c.args.self.now.sound c.collect_groups-count.ensures.groups)
