@@ -9,7 +9,8 @@ use Rattle.kc_wire.specs.declared.faults.WriteFault.{WriteFault}
 use Rattle.kc_wire.specs.declared.faults.WriteFault.TheVariants as write
 use Rattle.kc_dialogue.specs.Dialogues.{IsAnswered, IsDialogue, meant}
 use Rattle.kc_dialogue.specs.Endings.{HasAnswered, faults_at}
-use Rattle.kc_dialogue.specs.Openings.{HasOpened, behind, is_cut_off}
+use Rattle.kc_io.specs.LineEnds.{is_cut_off}
+use Rattle.kc_dialogue.specs.Openings.{HasOpened, behind}
 use Rattle.kc_dialogue.specs.Replies.{IsPrefixOf, StaysFrom}
 use Rattle.kc_dialogue.specs.Turns.{HasAdded, HasAddedAtEnd, IsGoing, end_by}
 use Rattle.kc_dialogue.specs.declared.end.DialogueEnd.{DialogueEnd}

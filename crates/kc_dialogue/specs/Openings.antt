@@ -1,17 +1,7 @@
 -- What a replier says before anything is read of a wire, as it was fed a text from elsewhere.
-use Rattle.std.specs.Prelude.{◌≡◌, ◌==◌, ◌++◌, ◌∷◌, ℕ, Bool, false, not, List, [], if◌then◌else◌}
+use Rattle.std.specs.Prelude.{◌≡◌, ◌++◌, ℕ, List}
 use Rattle.kc_dialogue.specs.Replies.{StaysFrom}
 use Rattle.kc_dialogue.specs.declared.flow.Flow.{Flow}
-
--- whether bytes end within a line
-abbrev pub is_cut_off : List ℕ → Bool
-is_cut_off [] = false
-is_cut_off (b ∷ []) = not (b == 10)
-is_cut_off (b ∷ c ∷ bytes) = is_cut_off (c ∷ bytes)
-
--- bytes with a line end behind their last line, which may have none
-abbrev pub with_end : List ℕ → List ℕ
-with_end bytes = if is_cut_off bytes then bytes ++ 10 ∷ [] else bytes
 
 -- A replier was fed these bytes, and this is the reply to them. Where the dialogue has ended, no bytes that follow change the reply.
 pub record HasOpened (reply reply_at_end : List ℕ → List ℕ) (WasFed : List ℕ → Type 0) (start : List ℕ) (flow : Flow) (text : List ℕ) : Type 0 where

@@ -2,7 +2,8 @@
 ghost use Rattle.std.specs.Prelude.{◌≡◌, ◌≢◌, ◌≤◌, ◌<◌, ◌-◌, ◌^◌, ◌++◌, ◌∷◌, [], ℕ, Err, List, IfOk, IfSome, IsErrOf, OnOk, length, if◌then◌else◌};
 ghost use Rattle.std.specs.Io.KnownBytes.{Consumes, IsAtEnd};
 ghost use Rattle.kc_io.specs.Causes.{Rose};
-ghost use Rattle.kc_dialogue.specs.Openings.{HasFedMore, HasOpened, is_cut_off, with_end};
+ghost use Rattle.kc_io.specs.LineEnds.{is_cut_off, with_end};
+ghost use Rattle.kc_dialogue.specs.Openings.{HasFedMore, HasOpened};
 
 use crate::answer::PIECE_BYTES;
 use crate::flow::Flow;

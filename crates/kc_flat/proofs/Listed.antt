@@ -10,12 +10,12 @@ use Rattle.std.proofs.lemmas.List.Elements.{All-append, All-cons, All-nil}
 use Rattle.std.proofs.Math.Seq.{take-length, take-suc}
 use Rattle.kc_lists.specs.Lists.{below, member}
 use Rattle.kc_lists.proofs.Members.{member-head, member-tail}
-use Rattle.kc_graph.specs.Neighbours.{neighbours_of}
+use Rattle.kc_graph.specs.Neighbours.{edges_to_greater, neighbours_of}
 use Rattle.kc_graph.specs.Rows.{IsAdjacency, graph_of, pairs_from, row}
 use Rattle.kc_graph.specs.SimpleGraph.{SimpleGraph}
 use Rattle.kc_graph.proofs.NeighbourLists.{neighbours_are, neighbours_within}
 use Rattle.kc_graph.proofs.RowsLemmas.{neighbours-view, size-view}
-use Rattle.kc_flat.specs.Listing.{ascending_below, edge_list, edges_to_greater}
+use Rattle.kc_flat.specs.Listing.{ascending_below, edge_list}
 
 -- one more number comes at the end
 pub ascending-suc : (n : ℕ) → ascending_below (suc n) ≡ ascending_below n ++ n ∷ []

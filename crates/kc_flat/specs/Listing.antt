@@ -1,17 +1,13 @@
 -- The edges of a graph as a list.
-use Rattle.std.specs.Prelude.{ℕ, List, filter, map, nat_lt, reverse}
+use Rattle.std.specs.Prelude.{ℕ, List, reverse}
 use Rattle.std.specs.List.{flat_map}
 use Rattle.kc_lists.specs.Lists.{below}
-use Rattle.kc_graph.specs.Neighbours.{neighbours_of}
+use Rattle.kc_graph.specs.Neighbours.{edges_to_greater, neighbours_of}
 use Rattle.kc_graph.specs.SimpleGraph.{SimpleGraph}
 
 -- the numbers below `n`, ascending: of a graph with so many vertices, the vertices
 abbrev pub ascending_below : ℕ → List ℕ
 ascending_below n = reverse (below n)
-
--- the edges from a vertex to those of these that are greater
-abbrev pub edges_to_greater : ℕ → List ℕ → List (ℕ × ℕ)
-edges_to_greater v ws = map (λ w. (v, w)) (filter (nat_lt v) ws)
 
 -- the edges of a graph, each once with its lesser end first, ascending by this end and then by the other one
 abbrev pub edge_list : SimpleGraph → List (ℕ × ℕ)

@@ -5,8 +5,8 @@ ghost use Rattle.std.specs.FinSet as set;
 ghost use Rattle.kc_lists.specs.Lists.{member};
 ghost use Rattle.kc_graph.specs.Bulk.{are_joined, graph_with};
 ghost use Rattle.kc_graph.specs.Gathering.{edge_of};
-ghost use Rattle.kc_graph.specs.Neighbours.{AreNeighbours};
-ghost use Rattle.kc_flat.specs.Listing.{edge_list, edges_to_greater};
+ghost use Rattle.kc_graph.specs.Neighbours.{AreNeighbours, edges_to_greater};
+ghost use Rattle.kc_flat.specs.Listing.{edge_list};
 ghost use Rattle.kc_flat.specs.Pairs.{AreWithin};
 ghost use Rattle.kc_flat.specs.Parts.{part, Fills};
 

@@ -116,7 +116,7 @@ next_head-in s core level h high =
     ∙ head-in (length core) (suc level) (vertices_of (length core) (list_after s.table s.log)) core (omega (arith, high))
 
 -- the greatest of a number and those of a list
-abbrev pub over : ℕ → List ℕ → ℕ
+abbrev over : ℕ → List ℕ → ℕ
 over d xs = fold (λ n c. max n c) d xs
 
 -- a number is no greater than the greatest of it and those of a list
@@ -125,7 +125,7 @@ start-at_most_over [] d = omega arith
 start-at_most_over (x ∷ xs) d = let h : max d x ≤ over d (x ∷ xs) = start-at_most_over xs (max d x) in omega (arith, h)
 
 -- a number of a list is no greater than the greatest of them and another one
-pub item-at_most_over : (xs : List ℕ) (d i : ℕ) → i < length xs → get_or xs i 0 ≤ over d xs
+item-at_most_over : (xs : List ℕ) (d i : ℕ) → i < length xs → get_or xs i 0 ≤ over d xs
 item-at_most_over [] d i l = absurd (omega (arith, l))
 item-at_most_over (x ∷ xs) d zero l = let h : max d x ≤ over d (x ∷ xs) = start-at_most_over xs (max d x) in omega (arith, h)
 item-at_most_over (x ∷ xs) d (suc i) l = item-at_most_over xs (max d x) i (omega (arith, l))
@@ -141,3 +141,18 @@ over-reached (x ∷ xs) d = elim (over-reached xs (max d x)) [
 -- the greatest of the levels is their top
 pub greatest-is_top : (core : List ℕ) (top : ℕ) → top ≡ greatest core → IsTop core top
 greatest-is_top core top is = subst (IsTop core) (sym is) (record { most = λ v l. item-at_most_over core 0 v l; reached = over-reached core 0 })
+
+-- what is no less than a number and those of a list is no less than the greatest of them
+over-least : (xs : List ℕ) (d m : ℕ) → d ≤ m → ((i : ℕ) → i < length xs → get_or xs i 0 ≤ m) → over d xs ≤ m
+over-least [] d m low h = low
+over-least (x ∷ xs) d m low h = over-least xs (max d x) m (omega (arith, low, h 0 (omega arith))) (λ i l. h (suc i) (omega (arith, l)))
+
+-- the top of core numbers is the greatest of them
+pub top-is : (core : List ℕ) (top : ℕ) → IsTop core top → top ≡ greatest core
+top-is core top h =
+    let low : greatest core ≤ top = over-least core 0 top (omega arith) h.most in
+    let high : top ≤ greatest core = elim h.reached [
+      | inl none ↦ omega (arith, none)
+      | inr some ↦ omega (arith, some.2, item-at_most_over core 0 some.0 some.1)
+    ] in
+    omega (arith, low, high)

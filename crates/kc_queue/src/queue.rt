@@ -58,7 +58,7 @@ impl WorkQueue {
         Consumer { pass }
     }
 
-    /// TakesNumber the next number. A consumer takes in the queue's order: the number is above all that it has taken itself.
+    /// Takes the next number. A consumer takes in the queue's order: the number is above all that it has taken itself.
     ///
     /// `None` tells that the queue was empty at one moment of the call, and who has all parts has then taken all numbers. To others it tells
     /// nothing, since nobody knows what others have taken.
@@ -86,7 +86,7 @@ impl WorkQueue {
     }
 }
 
-// PutsNumber the numbers 0 to `count - 1`. The queue has room for just these.
+// Puts the numbers 0 to `count - 1`. The queue has room for just these.
 fn fill<R: Wait>(rt: &R, line: &RuledQueue, pass: &mut Pass<u32, Hand>, count: u32)
     requires pass { IsPassOf line.now pass.old × (view pass.old ≡ hand PARTS 0 []) }
     requires room { ruled_capacity line.now ≡ count }

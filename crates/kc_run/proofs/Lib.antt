@@ -4,4 +4,3 @@ pub mod Lists
 pub mod Receiving
 pub mod Tabling
 pub mod Telling
-pub mod Topping

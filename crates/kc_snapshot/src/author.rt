@@ -56,7 +56,7 @@ impl<J: BoardName> Author<J> {
         &self.front
     }
 
-    /// AddsList a list to the history: this one, changed at these places.
+    /// Adds a list to the history: this one, changed at these places.
     pub(crate) fn add(&mut self, core: &Vec<u32>, places: &Vec<Place>) -> Result<(), NoMemory>
         requires room { length self.old + 1 < 2 ^ 32 }
         requires core { core.now.items ≡ last_list self.old }

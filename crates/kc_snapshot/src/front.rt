@@ -144,7 +144,7 @@ impl<J: BoardName> Front<J> {
         }
     }
 
-    /// AddsList a list, and says whether it did.
+    /// Adds a list, and says whether it did.
     pub(crate) fn extend(&mut self, head: &Head, pen: &mut Pen, draft: &Draft) -> bool
         requires head { head.now ≡ head_of J.book }
         requires pen { IsPen J.book (length self.old) pen.old.book pen.old.nib }

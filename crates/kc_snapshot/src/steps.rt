@@ -71,7 +71,7 @@ pub(crate) fn prepare(head: &Head, seen: &Known, members: u64, pens: u64) -> Opt
     Some(pen)
 }
 
-/// AddsList a list to the history, which has so many, and says whether it did. It did not where the next pen is not made.
+/// Adds a list to the history, which has so many, and says whether it did. It did not where the next pen is not made.
 pub(crate) fn add(head: &Head, seen: &mut Known, members: u64, pen: &mut Pen, draft: &Draft) -> bool
     requires head { head.now ≡ head_of seen.old.book }
     requires members { (members ≡ length seen.old.log) × (members < 2 ^ 32) }

@@ -1,7 +1,7 @@
 -- The replier was fed just what the source gave, in pieces with some bytes each, and no call has failed.
 use Rattle.std.proofs.Common.{◌≡◌, ◌≤◌, ◌<◌, List, ℕ, length}
 use Rattle.std.specs.Io.KnownBytes.{Consumes}
-use Rattle.kc_dialogue.specs.Openings.{is_cut_off}
+use Rattle.kc_io.specs.LineEnds.{is_cut_off}
 use Rattle.kc_dialogue.proofs.open.feed_all.Given as goal
 
 abbrev pub invariant-turns : goal.invariant-turns

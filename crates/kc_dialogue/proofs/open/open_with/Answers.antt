@@ -1,7 +1,7 @@
 -- The replier was fed all, and then a line end where that was wanting.
 use Rattle.std.proofs.Common.{List, ℕ, sym}
 use Rattle.std.proofs.lemmas.Result.{err_from_is_err_and}
-use Rattle.kc_dialogue.specs.Openings.{with_end}
+use Rattle.kc_io.specs.LineEnds.{with_end}
 use Rattle.kc_dialogue.proofs.Behind.{HasOpened-same}
 use Rattle.kc_dialogue.proofs.open.open_with.Goals as goal
 

@@ -1,6 +1,6 @@
 -- What is behind the others are the edges to the greater ones so far.
 use Rattle.std.proofs.Common.{◌≡◌, ◌++◌, take}
-use Rattle.kc_flat.specs.Listing.{edges_to_greater}
+use Rattle.kc_graph.specs.Neighbours.{edges_to_greater}
 use Rattle.kc_flat.proofs.graph.push_greater.Given as goal
 
 abbrev pub invariant-loop-w : goal.invariant-loop-w

@@ -3,10 +3,10 @@ use Rattle.std.proofs.Common.{◌≡◌, ◌<◌, ◌++◌, ◌∙◌, ℕ, List
 use Rattle.std.specs.FinSet.{from_list}
 use Rattle.std.specs.List.{flat_map}
 use Rattle.std.specs.Prelude.{All}
-use Rattle.kc_graph.specs.Neighbours.{neighbours_of}
+use Rattle.kc_graph.specs.Neighbours.{edges_to_greater, neighbours_of}
 use Rattle.kc_graph.specs.SimpleGraph.{SimpleGraph}
 use Rattle.kc_graph.proofs.NeighbourLists.{neighbours_are}
-use Rattle.kc_flat.specs.Listing.{ascending_below, edge_list, edges_to_greater}
+use Rattle.kc_flat.specs.Listing.{ascending_below, edge_list}
 use Rattle.kc_flat.specs.Parts.{parts_from}
 use Rattle.kc_flat.proofs.Listed.{edge_list-whole, edge_list-within, flat_map-next}
 use Rattle.kc_flat.proofs.graph.FlatGraph.edge_list.Goals as goal

@@ -1,8 +1,8 @@
 -- The edges of the vertices so far are there.
 use Rattle.std.proofs.Common.{◌≡◌}
 use Rattle.std.specs.List.{flat_map}
-use Rattle.kc_graph.specs.Neighbours.{neighbours_of}
-use Rattle.kc_flat.specs.Listing.{ascending_below, edges_to_greater}
+use Rattle.kc_graph.specs.Neighbours.{edges_to_greater, neighbours_of}
+use Rattle.kc_flat.specs.Listing.{ascending_below}
 use Rattle.kc_flat.proofs.graph.FlatGraph.edge_list.Given as goal
 
 abbrev pub invariant-loop-v : goal.invariant-loop-v

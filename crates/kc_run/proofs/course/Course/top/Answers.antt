@@ -4,7 +4,7 @@ use Rattle.kc_journal.specs.Journals.{Journalled}
 use Rattle.kc_levels.specs.Levels.{IsTop}
 use Rattle.kc_run.specs.Courses.{Coursed}
 use Rattle.kc_run.specs.declared.course.Course.TheInside.{Inside}
-use Rattle.kc_run.proofs.Topping.{top-is}
+use Rattle.kc_levels.proofs.Topping.{top-is}
 use Rattle.kc_run.proofs.course.Course.top.Goals as goal
 
 pub returns : goal.returns
