@@ -74,6 +74,11 @@ impl<'a, R: Files> Model for StdFolder<'a, R> {
 }
 
 impl From<NoMemory> for FolderFault {
+    ghost use Rattle.std.specs.Prelude.{◌≡◌};
+    ghost use Rattle.kc_files.specs.declared.fault.FolderFault.{FolderFault};
+
+    ghost from_gives = { λ _ fault. fault ≡ FolderFault.Other };
+
     fn from(_: NoMemory) -> FolderFault {
         FolderFault::Other
     }

@@ -116,6 +116,7 @@ impl Pace {
     /// A round begins at this moment, which may have so many threads, with so many pieces of work before it.
     pub fn begin(&mut self, now: u64, most: u64, pieces: u64) -> Span
         ensures threads { (result.threads ≡ 1) ⊎ ((1 < most) × (result.threads ≡ most)) }
+        ensures since { now ≤ result.until }
         ensures until { result.until ≤ now + SLICE }
     {
         let expected = self.cost.saturating_mul(pieces);
