@@ -2,7 +2,7 @@
 ghost use Rattle.std.specs.Prelude.{◌≡◌, ◌<◌, ◌≤◌, ◌+◌, ◌⊎◌, ℕ, [], IfErr, IfOk, MatchOption, OnErr, OnOk, nat_lt, not};
 ghost use Rattle.std.specs.Prelude.{slice_index};
 ghost use Rattle.kc_lists.specs.Lists.{place_of};
-ghost use Rattle.kc_graph.specs.Core.{AreCoreNumbers};
+ghost use Rattle.kc_graph.specs.Core.{AreCoreNumbers, greatest};
 ghost use Rattle.kc_graph.specs.Growing.{grown, with_vertices};
 ghost use Rattle.kc_graph.specs.Lawful.{IsCertified};
 ghost use Rattle.kc_graph.specs.Plans.{is_applied, updated};
@@ -146,6 +146,13 @@ impl Keeper {
         ensures seidman { AreCoreNumbers self.now.graph result.now }
     {
         self.journal.core_numbers()
+    }
+
+    /// The greatest core number, 0 where there is no vertex. It is kept, not looked for.
+    pub fn top(&self) -> u32
+        ensures { result ≡ greatest self.now.core }
+    {
+        self.journal.top()
     }
 
     /// Whether `x` stands before `y` in the order that certifies the numbers; none where one of them is no vertex.

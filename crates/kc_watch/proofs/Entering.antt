@@ -16,12 +16,10 @@ use Rattle.kc_text.specs.Inputs.{EdgeUpdate, edge_of, parts_of}
 use Rattle.kc_batch_effects.specs.Batches.{added, changed_edge, graph_after_batch, graph_after_update, is_add, is_effective, kept, removed}
 use Rattle.kc_batch_effects.proofs.Applying.{Spares, contains-ordered, contains-other, graph_after_batch-first, graph_after_batch-nil, graph_after_update-add}
 use Rattle.kc_batch_effects.proofs.Applying.{graph_after_update-remove}
-use Rattle.kc_graph.specs.Core.{AreCoreNumbers, greatest}
 use Rattle.kc_report.specs.declared.Line.TheVariants as run
 use Rattle.kc_text.specs.Inputs.{EdgeBatch}
 use Rattle.kc_watch.specs.Accounts.{top_of}
 use Rattle.kc_watch.specs.Text.{line_about}
-use Rattle.kc_watch.proofs.Accounts.{top-is}
 use Rattle.kc_keeper.specs.Batches.{count_applied, made_in_turn}
 use Rattle.kc_keeper.specs.Causes.{IsFirstOutside}
 use Rattle.kc_watch.specs.Effects.{AreEffects}
@@ -155,9 +153,8 @@ none-outside size us place vertex within f =
     omega (arith, within place f.update low, ap (λ (u : Update). u.v) is, f.vertex_is, f.outside)
 
 -- the line of what a batch did, and of the graph after it
-pub batch-line-is : (number : ℕ) (g : SimpleGraph) (batch : EdgeBatch) (effects : Effects) (after : SimpleGraph) (core : List ℕ) (edges top : ℕ)
-    → AreEffects g batch effects → edges ≡ set.len after.edges → top ≡ greatest core → AreCoreNumbers after core
+pub batch-line-is : (number : ℕ) (g : SimpleGraph) (batch : EdgeBatch) (effects : Effects) (after : SimpleGraph) (edges top : ℕ)
+    → AreEffects g batch effects → edges ≡ set.len after.edges → top ≡ top_of after
     → run.Batch number effects.added effects.removed effects.kept effects.overruled edges top ≡ line_about number g batch after
-batch-line-is number g batch effects after core edges top e edges-are top-as numbers =
-    let highest : top ≡ top_of after = top-as ∙ top-is after core numbers in
+batch-line-is number g batch effects after edges top e edges-are highest =
     λ i. run.Batch number (e.added_is i) (e.removed_is i) (e.kept_is i) (e.overruled_is i) (edges-are i) (highest i)

@@ -11,25 +11,25 @@ use Rattle.std.proofs.lemmas.List.Elements.{All-append, All-cons, All-head, All-
 use Rattle.std.proofs.lemmas.List.Folds.{list_any-append}
 use Rattle.kc_lists.specs.Lists.{member}
 use Rattle.kc_lists.proofs.Members.{member-cases, member-head, member-tail}
-use Rattle.kc_graph.specs.Neighbours.{AreNeighbours}
+use Rattle.kc_graph.specs.Neighbours.{AreNeighbours, edges_to_greater}
 use Rattle.kc_graph.specs.SimpleGraph.{SimpleGraph, pair_cmp}
 use Rattle.kc_graph.proofs.RowsLemmas.{pair_exact, pair_total, same_pair, tied_pair}
 use Rattle.kc_stream.specs.Gathering.{IsPairBelow}
 use Rattle.kc_batch_effects.proofs.Applying.{contains-ordered}
-use Rattle.kc_watch.specs.Room.{AreEdgesBelow, ListsEdgesBelow, edges_to}
+use Rattle.kc_watch.specs.Room.{AreEdgesBelow, ListsEdgesBelow}
 
 -- what holds of a vertex and each greater one of these holds of each edge to one
-to-each : (P : ℕ × ℕ → Type 0) (v : ℕ) (ws : List ℕ) → ((w : ℕ) → member w ws ≡ true → v < w → P (v, w)) → All P (edges_to v ws)
+to-each : (P : ℕ × ℕ → Type 0) (v : ℕ) (ws : List ℕ) → ((w : ℕ) → member w ws ≡ true → v < w → P (v, w)) → All P (edges_to_greater v ws)
 to-each P v [] each = All-nil P
 to-each P v (w ∷ ws) each =
-    let rest : All P (edges_to v ws) = to-each P v ws (λ x m less. each x (member-tail x w ws m) less) in
+    let rest : All P (edges_to_greater v ws) = to-each P v ws (λ x m less. each x (member-tail x w ws m) less) in
     elim (ltb v w) as (λ t. ltb v w ≡ t → All P (map (λ x. (v, x)) (cond t (w ∷ filter (ltb v) ws) (filter (ltb v) ws)))) [
-      | true ↦ λ e. All-cons P (v, w) (edges_to v ws) (each w (member-head w ws) (ltb-true v w e)) rest
+      | true ↦ λ e. All-cons P (v, w) (edges_to_greater v ws) (each w (member-head w ws) (ltb-true v w e)) rest
       | false ↦ λ e. rest
     ] refl
 
 -- the edge to a greater one of these is there
-to-has : (v b : ℕ) (ws : List ℕ) → v < b → member b ws ≡ true → list_any (eq_by_cmp pair_cmp (v, b)) (edges_to v ws) ≡ true
+to-has : (v b : ℕ) (ws : List ℕ) → v < b → member b ws ≡ true → list_any (eq_by_cmp pair_cmp (v, b)) (edges_to_greater v ws) ≡ true
 to-has v b [] less m = absurd (false≢true m)
 to-has v b (w ∷ ws) less m =
     elim (ltb v w) as (λ t. ltb v w ≡ t
@@ -53,23 +53,24 @@ module _ (g : SimpleGraph) (n : ℕ) (below : AreEdgesBelow n g.edges) where
   }
 
   -- those of one vertex more are listed
-  pub lists-next : (v : ℕ) (ws : List ℕ) (es : List (ℕ × ℕ)) → AreNeighbours g v ws → ListsEdgesBelow g v es → ListsEdgesBelow g (v + 1) (es ++ edges_to v ws)
+  pub lists-next : (v : ℕ) (ws : List ℕ) (es : List (ℕ × ℕ)) → AreNeighbours g v ws → ListsEdgesBelow g v es
+      → ListsEdgesBelow g (v + 1) (es ++ edges_to_greater v ws)
   lists-next v ws es are h =
       let Has : ℕ × ℕ → Type 0 = λ (p : ℕ × ℕ). set.contains g.edges p ≡ true in
       record {
-        edges = All-append Has es (edges_to v ws) h.edges
+        edges = All-append Has es (edges_to_greater v ws) h.edges
             (to-each Has v ws (λ w m less. sym (contains-ordered g v w less) ∙ (sym (are.exact w) ∙ m)));
         whole = λ p there low.
             let test : ℕ × ℕ → Bool = eq_by_cmp pair_cmp p in
-            list_any-append test es (edges_to v ws) ∙ elim (cases_lt p.0 v) [
-              | inl less ↦ or_left (list_any test es) (list_any test (edges_to v ws)) (h.whole p there less)
+            list_any-append test es (edges_to_greater v ws) ∙ elim (cases_lt p.0 v) [
+              | inl less ↦ or_left (list_any test es) (list_any test (edges_to_greater v ws)) (h.whole p there less)
               | inr high ↦
                   let same : p.0 ≡ v = omega (arith, low, high) in
                   let pair : (v, p.1) ≡ p = ap (λ (x : ℕ). (x, p.1)) (sym same) in
                   let less : v < p.1 = omega (arith, (below p there).0, same) in
                   let m : member p.1 ws ≡ true = are.exact p.1 ∙ (contains-ordered g v p.1 less ∙ (ap (set.contains g.edges) pair ∙ there)) in
-                  or_right (list_any test es) (list_any test (edges_to v ws))
-                  (subst (λ (q : ℕ × ℕ). list_any (eq_by_cmp pair_cmp q) (edges_to v ws) ≡ true) pair (to-has v p.1 ws less m))
+                  or_right (list_any test es) (list_any test (edges_to_greater v ws))
+                  (subst (λ (q : ℕ × ℕ). list_any (eq_by_cmp pair_cmp q) (edges_to_greater v ws) ≡ true) pair (to-has v p.1 ws less m))
             ];
       }
 

@@ -1,7 +1,7 @@
 -- A graph with spare vertices: its core numbers and layers are those of the graph without them, which goes on as the edges change.
 use Rattle.std.proofs.Common.{◌≡◌, ◌≤◌, ◌<◌, ◌-◌, ℕ, zero, suc, Bool, true, false, cond, not, ◌&&◌, ◌||◌, List, [], ◌∷◌, length, take, get_or, refl}
 use Rattle.std.proofs.Common.{sym, ap, ◌∙◌, subst, inl, inr, arith, lt-ltb, Option, Some, None, Vec, Global}
-use Rattle.std.specs.Prelude.{◌==◌, All, Err, Ok, Result, count_by, is_some, nat_le, nat_lt, slice_index, unwrap_or}
+use Rattle.std.specs.Prelude.{◌==◌, All, Err, Ok, Result, count_by, fold, is_some, max, nat_le, nat_lt, slice_index, unwrap_or}
 use Rattle.std.specs.List.{list_any}
 use Rattle.std.specs.Ordering.{eq_by_cmp}
 use Rattle.std.specs.FinSet as set
@@ -10,7 +10,7 @@ use Rattle.std.proofs.lemmas.List.{get_or-take, get_or_past, length-take-le}
 use Rattle.std.proofs.lemmas.List.Elements.{All-head, All-nil, All-tail, All-take, All-weaker}
 use Rattle.kc_lists.specs.Lists.{below}
 use Rattle.kc_lists.proofs.Counting.{below-member, count-agree, count-no}
-use Rattle.kc_graph.specs.Core.{AreCoreNumbers, IsCoreNumber}
+use Rattle.kc_graph.specs.Core.{AreCoreNumbers, IsCoreNumber, greatest}
 use Rattle.kc_graph.specs.Edges.{edge, with_edge, without_edge}
 use Rattle.kc_graph.specs.Growing.{HasItsEnds, grown, with_vertices}
 use Rattle.kc_graph.specs.Lawful.{Ranked}
@@ -27,10 +27,10 @@ use Rattle.kc_keeper.specs.Cores.{AreCoreChanges, IsCoreChange}
 use Rattle.kc_keeper.specs.declared.changes.CoreChange.{CoreChange}
 use Rattle.kc_keeper.specs.declared.fault.ApplyFault.{ApplyFault}
 use Rattle.kc_keeper.specs.declared.fault.ApplyFault.TheVariants.{NoMemory, NoVertex}
-use Rattle.kc_watch.specs.Accounts.{core_numbers_of, layers_of}
+use Rattle.kc_watch.specs.Accounts.{core_numbers_of, layers_of, top_of}
 use Rattle.kc_watch.specs.Room.{AreEdgesBelow, HasRoom, layers_in}
 use Rattle.kc_stream.specs.Gathering.{IsPairBelow}
-use Rattle.kc_watch.proofs.Accounts.{layers-alone, numbers-alone, numbers-are}
+use Rattle.kc_watch.proofs.Accounts.{layers-alone, numbers-alone, numbers-are, top-is}
 
 -- where the edges are between vertices, so are their ends
 ends-from : (n : ℕ) (g : SimpleGraph) → AreEdgesBelow n g.edges → HasItsEnds (with_vertices n g)
@@ -68,6 +68,14 @@ pub numbers-more : (n m : ℕ) (g : SimpleGraph) → AreEdgesBelow n g.edges →
     → (v : ℕ) → slice_index (core_numbers_of (with_vertices m g)) v ≡ slice_index (core_numbers_of (with_vertices n g)) v
 numbers-more n m g h more = numbers-grown (with_vertices n g) m (ends-from n g h) more
 
+-- lists that are alike but for zeros behind them have the same greatest number, and so have both beside a number more
+greatest-same : (xs ys : List ℕ) (d : ℕ) → ((v : ℕ) → get_or xs v 0 ≡ get_or ys v 0) → fold (λ n c. max n c) d xs ≡ fold (λ n c. max n c) d ys
+greatest-same [] [] d h = refl
+greatest-same [] (y ∷ ys) d h = let e : d ≡ max d y = omega (arith, h 0) in e ∙ greatest-same [] ys (max d y) (λ v. h (suc v))
+greatest-same (x ∷ xs) [] d h = greatest-same xs [] (max d x) (λ v. h (suc v)) ∙ (let e : max d x ≡ d = omega (arith, h 0) in e)
+greatest-same (x ∷ xs) (y ∷ ys) d h =
+    greatest-same xs ys (max d x) (λ v. h (suc v)) ∙ ap (λ (m : ℕ). fold (λ n c. max n c) (max d m) ys) (h 0)
+
 module _ (g : SimpleGraph) (n : ℕ) (fits : n ≤ g.size) (edges : AreEdgesBelow n g.edges) where
   -- each end of an edge is a vertex that is used
   ends : HasItsEnds (with_vertices n g)
@@ -90,6 +98,10 @@ module _ (g : SimpleGraph) (n : ℕ) (fits : n ≤ g.size) (edges : AreEdgesBelo
         (get_or-take n core v 0 low ∙ ap (λ (l : List ℕ). get_or l v 0) (numbers-alone g core are) ∙ spare-numbers v))
         ((numbers-are used).each v low);
   }
+
+  -- the greatest of the core numbers is that of the graph without spare vertices
+  pub spare-top : (core : List ℕ) → AreCoreNumbers g core → greatest core ≡ top_of (with_vertices n g)
+  spare-top core are = top-is g core are ∙ greatest-same (core_numbers_of g) (core_numbers_of (with_vertices n g)) 0 spare-numbers
 
   -- a spare vertex is nobody's neighbour
   nobody-beside : (v w : ℕ) → n ≤ w → adjacent g v w ≡ false

@@ -1,7 +1,7 @@
 -- A graph whose last vertices are spare.
-use Rattle.std.specs.Prelude.{◌≡◌, ◌≤◌, ◌<◌, ℕ, true, List, Option, Some, Vec, All, map, nat_lt, option_map}
+use Rattle.std.specs.Prelude.{◌≡◌, ◌≤◌, ◌<◌, ℕ, true, List, Option, Some, Vec, All, option_map}
 use Rattle.std.specs.Global.{Global}
-use Rattle.std.specs.List.{filter, list_any}
+use Rattle.std.specs.List.{list_any}
 use Rattle.std.specs.Ordering.{eq_by_cmp}
 use Rattle.std.specs.FinSet.{FinSet, contains}
 use Rattle.kc_graph.specs.Growing.{with_vertices}
@@ -28,10 +28,6 @@ pub record HasRoom (g : SimpleGraph) (vertices : ℕ) (layers : Option (List ℕ
   pub fits : vertices ≤ g.size
   pub edges : AreEdgesBelow vertices g.edges
   pub layered : (l : List ℕ) → layers ≡ Some l → l ≡ layers_of (with_vertices vertices g)
-
--- the edges from a vertex to those of these that are greater
-abbrev pub edges_to : ℕ → List ℕ → List (ℕ × ℕ)
-edges_to v ws = map (λ w. (v, w)) (filter (nat_lt v) ws)
 
 -- The list has the edges of a graph whose lesser end is below a bound, and no pair that is no edge.
 pub record ListsEdgesBelow (g : SimpleGraph) (bound : ℕ) (listed : List (ℕ × ℕ)) : Type 0 where

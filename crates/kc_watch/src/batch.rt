@@ -1,5 +1,5 @@
 //! The updates of a batch are made, with the ids that came in it.
-ghost use Rattle.std.specs.Prelude.{◌≡◌, ◌≤◌, ℕ, All, IfOk, OnErr, OnOk};
+ghost use Rattle.std.specs.Prelude.{◌≡◌, ◌<◌, ◌≤◌, ℕ, All, IfOk, OnErr, OnOk};
 ghost use Rattle.kc_graph.specs.Growing.{with_vertices};
 ghost use Rattle.kc_text.specs.Deciding.{last_batch};
 ghost use Rattle.kc_words.specs.declared.layout.TheConstants.{VERTICES};
@@ -30,13 +30,14 @@ pub(crate) struct Effects {
     pub(crate) overruled: u32,
 }
 
-/// How many vertices a keeper has that grows for so many: some spare ones too, if no more than it may have.
-fn with_spare(vertices: u32) -> u32
+/// So many vertices, and behind them a spare one for each so many of them, as long as there are no more than a graph may have.
+pub(crate) fn with_spare(vertices: u32, vertices_for_one: u32) -> u32
     requires few { vertices ≤ VERTICES }
+    requires some { 0 < vertices_for_one }
     ensures more { vertices ≤ result }
     ensures few { result ≤ VERTICES }
 {
-    (vertices + vertices / VERTICES_FOR_A_SPARE_ONE).min(VERTICES)
+    (vertices + vertices / vertices_for_one).min(VERTICES)
 }
 
 /// Gives a keeper so many vertices, as many as it has or more.
@@ -63,7 +64,11 @@ pub(crate) fn make_room(alloc: Global, keeper: &mut Keeper, vertices: u32) -> Re
     if vertices <= keeper.vertices() {
         return Ok(());
     }
-    match grow(alloc, keeper, with_spare(vertices)) {
+    match grow(
+        alloc,
+        keeper,
+        with_spare(vertices, VERTICES_FOR_A_SPARE_ONE),
+    ) {
         Ok(()) => Ok(()),
         Err(_) => grow(alloc, keeper, vertices),
     }

@@ -1,7 +1,8 @@
 //! A graph without its spare vertices: those behind the others, which have no edges.
 ghost use Rattle.std.specs.Prelude.{◌≡◌, ◌≤◌, ◌++◌, IfOk, OnOk};
 ghost use Rattle.kc_graph.specs.Growing.{with_vertices};
-ghost use Rattle.kc_watch.specs.Room.{AreEdgesBelow, ListsEdgesBelow, edges_to};
+ghost use Rattle.kc_graph.specs.Neighbours.{edges_to_greater};
+ghost use Rattle.kc_watch.specs.Room.{AreEdgesBelow, ListsEdgesBelow};
 
 use crate::NoMemory;
 use kc_graph::{Graph, SharedGraph};
@@ -9,7 +10,7 @@ use std::alloc::Global;
 
 /// Puts the edges from a vertex to those of its neighbours that are greater behind others.
 fn put_edges(vertex: u32, neighbours: &[u32], edges: &mut Vec<(u32, u32)>) -> Result<(), NoMemory>
-    ensures { OnOk result (edges.new.items ≡ edges.old.items ++ edges_to vertex neighbours.now) }
+    ensures { OnOk result (edges.new.items ≡ edges.old.items ++ edges_to_greater vertex neighbours.now) }
 {
     for w in neighbours {
         if vertex < *w {

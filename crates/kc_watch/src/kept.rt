@@ -22,7 +22,6 @@ use crate::roomy::RoomyKeeper;
 use crate::state::WatchedState;
 use kc_answers::{Numbers, needs_layers, put_answer};
 use kc_changes::put_changes;
-use kc_graph::greatest;
 use kc_keeper::Changes;
 use kc_reply::{ReplyFormat, ReplyLine, put_reply_line};
 use kc_report::Line;
@@ -94,7 +93,7 @@ impl Kept {
             kept: effects.kept,
             overruled: effects.overruled,
             edges: self.keeper.edges(),
-            top: greatest(self.keeper.core_numbers()),
+            top: self.keeper.top(),
         }
     }
 

@@ -1,5 +1,5 @@
 //! What a stream is answered beside the lines of its graph and of its batches, what becomes of bad lines, and how the answers are written.
-ghost use Rattle.std.specs.Prelude.{◌≡◌, None, true};
+ghost use Rattle.std.specs.Prelude.{◌≡◌, ◌⊎◌, None, false, is_some, true};
 ghost use Rattle.kc_changes.specs.declared.show.Show.{Show};
 
 use kc_changes::Show;
@@ -24,6 +24,7 @@ impl WatchOptions {
     pub fn is_brief(self) -> bool
         ensures show { result ≡ true → self.show ≡ Show.Summary }
         ensures enter { result ≡ true → self.enter ≡ None }
+        ensures more { result ≡ false → (self.show ≡ Show.Changes) ⊎ (is_some self.enter ≡ true) }
     {
         match self.show {
             Show::Summary => self.enter.is_none(),

@@ -11,7 +11,7 @@ ghost use Rattle.kc_words.specs.declared.layout.TheConstants.{VERTICES};
 ghost use Rattle.kc_batch_effects.specs.Batches.{graph_after_batch};
 ghost use Rattle.kc_keeper.specs.Cores.{AreCoreChanges};
 ghost use Rattle.kc_stream.specs.Gathering.{IsUpdateBelow};
-ghost use Rattle.kc_watch.specs.Accounts.{core_numbers_of, layers_of};
+ghost use Rattle.kc_watch.specs.Accounts.{core_numbers_of, layers_of, top_of};
 ghost use Rattle.kc_watch.specs.Effects.{AreEffects};
 ghost use Rattle.kc_watch.specs.Room.{AreEdgesBelow};
 
@@ -60,26 +60,31 @@ fn first_layers(alloc: Global, keeper: &Keeper, vertices: u32) -> Result<Vec<u32
 }
 
 impl RoomyKeeper {
-    /// Keeps a graph that has no more vertices than it may have. None of them is spare.
-    pub(crate) fn open(alloc: Global, lawful: Lawful) -> Result<RoomyKeeper, NoMemory>
+    /// Keeps a graph of which the first so many vertices are used, and those behind them are spare.
+    pub(crate) fn open(
+        alloc: Global,
+        lawful: Lawful,
+        vertices: u32,
+    ) -> Result<RoomyKeeper, NoMemory>
+        requires fits { vertices ≤ lawful.graph.size }
         requires few { lawful.graph.size ≤ VERTICES }
-        requires edges { AreEdgesBelow lawful.graph.size lawful.graph.edges }
-        ensures { IfOk result (λ keeper. keeper.graph ≡ lawful.graph) }
+        requires edges { AreEdgesBelow vertices lawful.graph.edges }
+        ensures { IfOk result (λ keeper. keeper.graph ≡ with_vertices vertices lawful.graph) }
     {
         match Keeper::open(alloc, lawful) {
-            Ok(keeper) => Ok(RoomyKeeper::of_keeper(keeper)),
+            Ok(keeper) => Ok(RoomyKeeper::of_keeper(keeper, vertices)),
             Err(OpenFault::NoMemory) => Err(NoMemory),
             Err(OpenFault::TooManyVertices { .. }) => unreachable!(),
         }
     }
 
-    /// All vertices of a keeper are used.
-    fn of_keeper(keeper: Keeper) -> RoomyKeeper
-        requires { AreEdgesBelow keeper.graph.size keeper.graph.edges }
-        ensures graph { result.graph ≡ keeper.graph }
+    /// The first so many vertices of a keeper are used.
+    fn of_keeper(keeper: Keeper, vertices: u32) -> RoomyKeeper
+        requires fits { vertices ≤ keeper.graph.size }
+        requires edges { AreEdgesBelow vertices keeper.graph.edges }
+        ensures graph { result.graph ≡ with_vertices vertices keeper.graph }
         ensures layers { result.layers ≡ None }
     {
-        let vertices = keeper.vertices();
         RoomyKeeper {
             keeper,
             vertices,
@@ -106,6 +111,14 @@ impl RoomyKeeper {
         ensures seidman { AreCoreNumbers self.now.graph result.now }
     {
         &self.keeper.core_numbers()[..self.vertices as usize]
+    }
+
+    /// The greatest core number, 0 where there is no vertex. It is kept, not looked for: a spare vertex has no edge, and so the core number 0.
+    pub(crate) fn top(&self) -> u32
+        ensures { result ≡ top_of self.now.graph }
+    {
+        self.keeper.recall_certified();
+        self.keeper.top()
     }
 
     /// Adds vertices until there are so many. Where there is no memory, the graph stays as it is.

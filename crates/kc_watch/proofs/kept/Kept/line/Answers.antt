@@ -4,5 +4,4 @@ use Rattle.kc_watch.proofs.kept.Kept.line.Goals as goal
 
 pub returns : goal.returns
 returns c g batch are =
-    batch-line-is c.args.number g batch c.args.effects c.args.self.now.keeper.graph c.core_numbers.result.now c.edges.result c.greatest.result are
-    c.edges.ensures c.greatest.ensures c.core_numbers.ensures.seidman
+    batch-line-is c.args.number g batch c.args.effects c.args.self.now.keeper.graph c.edges.result c.top.result are c.edges.ensures c.top.ensures
