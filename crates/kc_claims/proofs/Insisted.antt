@@ -1,6 +1,8 @@
 -- How a stream is looked through that is to ascend, and what is found then.
-use Rattle.std.proofs.Common.{◌≡◌, ◌<◌, ◌+◌, ◌++◌, ◌∙◌, Global, ℕ, List, None, Option, Some, Vec, ap, append_assoc, arith, length, length-append, subst, sym}
+use Rattle.std.proofs.Common.{◌≡◌, ◌<◌, ◌+◌, ◌++◌, ◌∙◌, Global, ℕ, IfSome, List, None, Option, Some, Vec, ap}
+use Rattle.std.proofs.Common.{append_assoc, arith, is_none, length, length-append, refl, subst, sym, true}
 use Rattle.kc_graph.specs.Peeling.{at}
+use Rattle.kc_graph.specs.declared.bulk.Edge.{Edge}
 use Rattle.kc_text.specs.Forms.{all_said}
 use Rattle.kc_text.specs.Lines.{EndsLine}
 use Rattle.kc_text.specs.declared.line.TextLine.{TextLine}
@@ -8,8 +10,8 @@ use Rattle.kc_text.proofs.SaidAppend.{ends-append, said-append}
 use Rattle.kc_claims.specs.Certificates.{AreCertificate, TellCoreNumbers}
 use Rattle.kc_claims.specs.Insisting.{HasCount, HasFollowed, HasInsisted, HasInsistedFor, IsCountFault}
 use Rattle.kc_claims.specs.LineFaults.{first_line_fault, last_pair}
-use Rattle.kc_claims.specs.Streams.{HoldsOfStream, IsFaultOfStream}
-use Rattle.kc_claims.specs.Sweeping.{Agrees, HasSwept, IsFirstMiscount}
+use Rattle.kc_claims.specs.Streams.{HoldsOfStream, IsFaultOfStream, IsStreamVerdict}
+use Rattle.kc_claims.specs.Sweeping.{Agrees, HasCounted, HasSwept, IsFirstMiscount, KeepsTold}
 use Rattle.kc_claims.specs.Judging.{AreCounted, HasLookedFor, TellLines}
 use Rattle.kc_claims.specs.declared.claim.Claim.{Claim}
 use Rattle.kc_claims.specs.declared.claimed.ClaimLines.{ClaimLines}
@@ -19,7 +21,33 @@ use Rattle.kc_claims.specs.declared.fault.FaultyLine.{FaultyLine}
 use Rattle.kc_claims.specs.declared.insisting.Insisting.{Insisting}
 use Rattle.kc_claims.specs.declared.sweep.Sweep.{Sweep}
 use Rattle.kc_claims.proofs.LineFaulting.{clean-append, faulty-append, last_pair-append}
-use Rattle.kc_claims.proofs.Streamed.{certified-stream, faulty-ids, met-claims, told-counted, unknown-stream}
+use Rattle.kc_claims.proofs.Streamed.{certified-stream, faulty-ids, faulty-stream, met-claims, told-counted, unknown-stream}
+
+-- what vertices are told stays where nothing changes, and from step to step
+pub KeepsTold-same : (s : Sweep) → KeepsTold s s
+KeepsTold-same s = record { ids = refl; core = refl; rank = refl; later_each = refl; supporters_each = refl }
+
+KeepsTold-trans : (a b c : Sweep) → KeepsTold a b → KeepsTold b c → KeepsTold a c
+KeepsTold-trans a b c first second = record {
+  ids = second.ids ∙ first.ids;
+  core = second.core ∙ first.core;
+  rank = second.rank ∙ first.rank;
+  later_each = second.later_each ∙ first.later_each;
+  supporters_each = second.supporters_each ∙ first.supporters_each;
+}
+
+-- it stays while edges are counted
+KeepsTold-counted : (first old now : Sweep) (es fs : List Edge) → HasCounted first old es → HasCounted first now fs → KeepsTold old now
+KeepsTold-counted first old now es fs before after =
+    let core : now.core ≡ old.core = after.core ∙ sym before.core in
+    let size = ap (λ (v : Vec ℕ Global). length v.items) core in
+    record {
+      ids = after.ids ∙ sym before.ids;
+      core = core;
+      rank = after.rank ∙ sym before.rank;
+      later_each = omega (arith, size, after.tally.later_each, before.tally.later_each);
+      supporters_each = omega (arith, size, after.tally.supporters_each, before.tally.supporters_each);
+    }
 
 -- once a line is wrong, it stays the first
 pub HasInsisted-stays : (start old : Insisting) (before lines : List ℕ) (f : FaultyLine) → EndsLine before → HasInsisted start old before
@@ -30,6 +58,7 @@ HasInsisted-stays start old before lines f ended h is = record {
       ∙ sym (ap (first_line_fault start.sweep.ids.items 0 start.last) (said-append before lines ended)
       ∙ faulty-append start.sweep.ids.items 0 start.last (all_said before) (all_said lines) f (sym h.first ∙ is));
   followed = λ none. absurd (let e : Some f ≡ None = sym is ∙ none in cc);
+  kept = h.kept;
 }
 
 module _ (start old now : Insisting) (before lines : List ℕ) (ended : EndsLine before) (h : HasInsisted start old before) (clean : old.fault ≡ None) where
@@ -58,10 +87,11 @@ module _ (start old now : Insisting) (before lines : List ℕ) (ended : EndsLine
 
   -- a line that came is wrong
   pub HasInsisted-faulty : (wrong : FaultyLine) → first_line_fault old.sweep.ids.items old.lines old.last (all_said lines) ≡ Some wrong
-      → now.fault ≡ Some wrong → HasInsisted start now (before ++ lines)
-  HasInsisted-faulty wrong is told = record {
+      → now.fault ≡ Some wrong → KeepsTold old.sweep now.sweep → HasInsisted start now (before ++ lines)
+  HasInsisted-faulty wrong is told kept = record {
     first = told ∙ sym (first-of-all ∙ is);
     followed = λ none. absurd (let e : Some wrong ≡ None = sym told ∙ none in cc);
+    kept = KeepsTold-trans start.sweep old.sweep now.sweep h.kept kept;
   }
 
   -- none of the lines that came is wrong, and all their edges were counted
@@ -80,6 +110,12 @@ module _ (start old now : Insisting) (before lines : List ℕ) (ended : EndsLine
           last ∙ ap (λ p. last_pair p (all_said lines)) f.last ∙ sym (last_pair-append start.last (all_said before) (all_said lines))
           ∙ sym (ap (last_pair start.last) (said-append before lines ended));
     };
+    kept =
+        let (first, earlier, ends, so_far) = f.begun in
+        let all = f.swept first earlier ends so_far in
+        let more = swept first (earlier ++ before) (ends-append earlier before ends ended) all in
+        KeepsTold-trans start.sweep old.sweep now.sweep h.kept
+        (KeepsTold-counted first old.sweep now.sweep all.edges more.edges all.counted more.counted);
   }
 
 -- a claim that does not agree is what the counts show to be wrong
@@ -109,6 +145,16 @@ module _ (claims : List Claim) (order : List ℕ) (now : Insisting) (known : Opt
   faulty-ascending (ManyLater claim count) first = faulty-ids claims order h.sweep h.begun now.sweep known h.fed (ManyLater claim count) first
   faulty-ascending (FewSupporters claim count) first =
       faulty-ids claims order h.sweep h.begun now.sweep known h.fed (FewSupporters claim count) first
+
+  -- where something is counted of the vertices of all claims, this is the verdict on the claims in the graph of the stream
+  pub verdict-ascending : ((i : ℕ) → i < length claims → HasCount now.sweep.later.items now.sweep.supporters.items (at order i)) → (found : Option ClaimFault)
+      → IfSome found (IsFirstMiscount claims order now.sweep.later.items now.sweep.supporters.items)
+      → (is_none found ≡ true → (i : ℕ) → i < length claims → Agrees claims order now.sweep.later.items now.sweep.supporters.items i)
+      → IsStreamVerdict claims known found
+  verdict-ascending counted None first agree = certified-ascending (agree refl) counted
+  verdict-ascending counted (Some fault) first agree =
+      faulty-stream claims order h.sweep h.begun now.sweep known h.fed
+      (met-claims claims order h.sweep h.begun now.sweep known h.fed counted) fault first
 
 -- the sweep has a count of each kind for each vertex of the claims
 pub AreCounted-looked : (claims : List Claim) (order : List ℕ) (now : Insisting) (lines : ClaimLines) (known : Option (List ℕ))

@@ -1,7 +1,8 @@
 -- Which claim stands first of those that the counts show to be wrong.
-use Rattle.std.proofs.Common.{◌≡◌, ◌≤◌, ◌<◌, ◌∙◌, ◌⊎◌, ℕ, Bool, List, None, Some, true, false}
-use Rattle.std.proofs.Common.{ap, arith, length, refl, subst, sym}
-use Rattle.std.proofs.lemmas.List.{get_or_default}
+use Rattle.std.proofs.Common.{◌≡◌, ◌≢◌, ◌≤◌, ◌<◌, ◌+◌, ◌∙◌, ◌⊎◌, ℕ, Bool, List, None, Some, true, false}
+use Rattle.std.proofs.Common.{ap, arith, inl, inr, length, refl, set, subst, sym}
+use Rattle.std.proofs.lemmas.Bool.{cases_eq}
+use Rattle.std.proofs.lemmas.List.{get_or-set_other, get_or-set_same, get_or_default}
 use Rattle.kc_graph.specs.Peeling.{at}
 use Rattle.kc_graph.proofs.Places.{length-enumerates}
 use Rattle.kc_claims.specs.Certificates.{claim_at}
@@ -36,7 +37,7 @@ module _ (claims : List Claim) (order : List ℕ) (sweep : Sweep) (lines : Claim
   one-id : length sweep.ids.items ≡ length claims
   one-id = omega (arith, length-enumerates (length sweep.ids.items) order h.told.enumerates, h.told.all.one_each)
 
-  one-number : length sweep.core.items ≡ length claims
+  pub one-number : length sweep.core.items ≡ length claims
   one-number = omega (arith, one-id, h.told.one_number)
 
   -- each vertex has a rank, a place and counts
@@ -59,7 +60,7 @@ module _ (claims : List Claim) (order : List ℕ) (sweep : Sweep) (lines : Claim
   place-is : (i : ℕ) → i < length claims → claim_place lines.places sweep.rank.items (at order i) ≡ i
   place-is i l = h.stand.places.place i (omega (arith, l, h.told.all.one_each))
 
-  vertex-at : (i : ℕ) → i < length claims → at order i < length sweep.core.items
+  pub vertex-at : (i : ℕ) → i < length claims → at order i < length sweep.core.items
   vertex-at i l = omega (arith, h.told.all.vertices i l, h.told.one_number)
 
   -- what a vertex is told is what the claim at its place tells
@@ -73,6 +74,24 @@ module _ (claims : List Claim) (order : List ℕ) (sweep : Sweep) (lines : Claim
   -- no two claims are of one vertex
   pub one-claim : (i j : ℕ) → i < length claims → j < length claims → at order i ≡ at order j → i ≡ j
   one-claim i j l k same = sym (place-is i l) ∙ ap (claim_place lines.places sweep.rank.items) same ∙ place-is j k
+
+  -- where the claim of a vertex is put at its place, the claims of one vertex more stand at theirs
+  pub claim-put : (v : ℕ) → v < length sweep.core.items → (place : ℕ) → place ≡ claim_place lines.places sweep.rank.items v → (told : List Claim)
+      → length told ≡ length sweep.core.items → (claim : Claim) → ((i : ℕ) → i < length claims → at order i ≡ v → claim ≡ claim_at claims i)
+      → ((i : ℕ) → i < length claims → at order i < v → claim_at told i ≡ claim_at claims i)
+      → (i : ℕ) → i < length claims → at order i < v + 1 → claim_at (set told place claim) i ≡ claim_at claims i
+  claim-put v l place here told size claim is before i k below =
+      let (within, stands) = vertex-place v l place here in
+      elim (cases_eq (at order i) v) [
+        | inl e ↦
+            let same : place ≡ i = one-claim place i within k (stands ∙ sym e) in
+            ap (claim_at (set told place claim)) (sym same)
+            ∙ get_or-set_same told place claim _ (omega (arith, size, within, one-number))
+            ∙ is i k e
+        | inr ne ↦
+            let other : i ≢ place = λ same. ne (ap (at order) same ∙ stands) in
+            get_or-set_other told place i claim _ other ∙ before i k (omega (arith, below, ne))
+      ]
 
   -- a claim whose vertex is not wrong
   agree : (i : ℕ) → i < length claims → is_wrong_at Miscounted sweep (at order i) ≡ false

@@ -11,13 +11,14 @@ use Rattle.kc_text.specs.declared.limits.TheConstants.Limits.{GRAPH}
 use Rattle.kc_text.specs.declared.line.TextLine.{TextLine}
 use Rattle.kc_text.proofs.LineCuts.{some_part}
 use Rattle.kc_text.proofs.SaidAppend.{lines-newline, said-append}
+use Rattle.kc_io.specs.LineEnds.{is_cut_off, with_end}
 use Rattle.kc_claims.specs.Feeding.{IsFedWith}
 use Rattle.kc_claims.specs.Insisting.{HasInsisted}
-use Rattle.kc_claims.specs.Judging.{AreClaimed, TellLines}
+use Rattle.kc_claims.specs.Judging.{AreClaimed, AreCounted, TellLines}
 use Rattle.kc_claims.specs.LineFaults.{HasFaultyLine, fault_or, first_line_fault, last_pair, line_fault, pair_after}
-use Rattle.kc_claims.specs.Pieces.{HasFaultyPiece, HasTakenText, is_cut_off, with_end, with_piece}
+use Rattle.kc_claims.specs.Pieces.{HasFaultyPiece, HasTakenText, TellsClaims, with_piece}
 use Rattle.kc_claims.specs.Streams.{IsFaultOfStream}
-use Rattle.kc_claims.specs.Sweeping.{AreToldBy, HasSwept}
+use Rattle.kc_claims.specs.Sweeping.{AreToldBy, HasSwept, KeepsTold}
 use Rattle.kc_claims.specs.declared.ascending.AscendingCheck.{AscendingCheck}
 use Rattle.kc_claims.specs.declared.claim.Claim.{Claim}
 use Rattle.kc_claims.specs.declared.claimed.ClaimLines.{ClaimLines}
@@ -28,6 +29,8 @@ use Rattle.kc_claims.specs.declared.fault.LineFault.{LineFault}
 use Rattle.kc_claims.specs.declared.fault.LineFault.TheVariants as wrong
 use Rattle.kc_claims.specs.declared.insisting.Insisting.{Insisting}
 use Rattle.kc_claims.specs.declared.sweep.Sweep.{Sweep}
+use Rattle.kc_claims.proofs.Counted.{TellEach-same}
+use Rattle.kc_claims.proofs.Insisted.{AreCounted-looked}
 use Rattle.kc_claims.proofs.LineFaulting.{clean-append, last_pair-append}
 
 -- bytes that are not cut off end with a line
@@ -298,6 +301,33 @@ module _ (claims : List Claim) (before known : Option (List ℕ)) (old : Ascendi
         };
         room = long;
       }
+
+-- what claims tell stays where the vertices are told the same
+AreCounted-kept : (claims : List Claim) (order : List ℕ) (old now : Sweep) (lines : ClaimLines) → AreCounted claims order old lines → KeepsTold old now
+    → AreCounted claims order now lines
+AreCounted-kept claims order old now lines h kept =
+    let core = ap (λ (v : Vec ℕ Global). v.items) kept.core in
+    let rank = ap (λ (v : Vec ℕ Global). v.items) kept.rank in
+    record {
+      told = TellEach-same claims order old.ids.items now.ids.items old.core.items now.core.items old.rank.items now.rank.items
+          (ap (λ (v : Vec ℕ Global). v.items) kept.ids) core rank h.told;
+      stand = subst (λ (xs : List ℕ). TellLines claims order xs lines) (sym rank) h.stand;
+      later_each = kept.later_each ∙ h.later_each ∙ sym (ap length core);
+      supporters_each = kept.supporters_each ∙ h.supporters_each ∙ sym (ap length core);
+    }
+
+-- a check that has looked at more lines, or at a wrong one, has still what the claims tell
+pub TellsClaims-kept : (claims : List Claim) (before : Option (List ℕ)) (old : AscendingCheck) (h : HasTakenText claims before old) (start now : Insisting)
+    (new : AscendingCheck) (done : List ℕ) → start.sweep ≡ old.insisting.sweep → HasInsisted start now done → new.insisting ≡ now
+    → new.lines ≡ old.lines → TellsClaims claims new
+TellsClaims-kept claims before old h start now new done same took is lines = (
+  h.order,
+  subst (λ (l : ClaimLines). AreCounted claims h.order new.insisting.sweep l) (sym lines)
+      (subst (λ (i : Insisting). AreCounted claims h.order i.sweep old.lines) (sym is)
+      (AreCounted-kept claims h.order old.insisting.sweep now.sweep old.lines
+      (AreCounted-looked claims h.order old.insisting old.lines before h.looked)
+      (subst (λ (s : Sweep). KeepsTold s now.sweep) same took.kept))),
+)
 
 -- what is known of a stream that comes in one piece
 pub one-piece : (known : Option (List ℕ)) → with_piece (Some []) known ≡ known

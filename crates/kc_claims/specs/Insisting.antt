@@ -7,7 +7,7 @@ use Rattle.kc_text.specs.declared.limits.TheConstants.Limits.{GRAPH}
 use Rattle.kc_claims.specs.Certificates.{claim_at}
 use Rattle.kc_claims.specs.Feeding.{IsFedWith}
 use Rattle.kc_claims.specs.LineFaults.{first_line_fault, last_pair}
-use Rattle.kc_claims.specs.Sweeping.{Agrees, HasBegunFor, HasSwept, IsFirstMiscount}
+use Rattle.kc_claims.specs.Sweeping.{Agrees, HasBegunFor, HasSwept, IsFirstMiscount, KeepsTold}
 use Rattle.kc_claims.specs.declared.claim.Claim.{Claim}
 use Rattle.kc_claims.specs.declared.fault.ClaimFault.{ClaimFault}
 use Rattle.kc_claims.specs.declared.fault.ClaimFault.TheVariants.{Unknown, Repeated, Missing, ManyLater, FewSupporters}
@@ -22,10 +22,11 @@ pub record HasFollowed (start now : Insisting) (text : List ℕ) : Type 0 where
   pub lines : now.lines ≡ length (all_said text)
   pub last : now.last ≡ last_pair start.last (all_said text)
 
--- these bytes were looked at: the first line of them that is wrong is kept, and where none is they were followed
+-- These bytes were looked at: the first line of them that is wrong is kept, and where none is they were followed. What vertices are told stays.
 pub record HasInsisted (start now : Insisting) (text : List ℕ) : Type 0 where
   pub first : now.fault ≡ first_line_fault start.sweep.ids.items 0 start.last (all_said text)
   pub followed : now.fault ≡ None → HasFollowed start now text
+  pub kept : KeepsTold start.sweep now.sweep
 
 -- something is counted of a vertex, so it has an edge
 abbrev pub HasCount : List ℕ → List ℕ → ℕ → Type 0

@@ -1,25 +1,15 @@
 -- A text that comes in pieces, one after another, where a line may be broken off at the end of a piece alone.
-use Rattle.std.specs.Prelude.{◌≡◌, ◌≤◌, ◌+◌, ◌++◌, ◌∷◌, ℕ, Bool, List, [], None, Option, Some, IfSome, false, if◌then◌else◌, length, not}
+use Rattle.std.specs.Prelude.{◌≡◌, ◌≤◌, ◌+◌, ◌++◌, ℕ, List, None, Option, Some, IfSome, length}
 use Rattle.std.specs.List.Sorted.{IsStrictlyIncreasing}
+use Rattle.kc_io.specs.LineEnds.{with_end}
 use Rattle.kc_text.specs.Forms.{all_said}
-use Rattle.kc_text.specs.Lines.{is_newline}
 use Rattle.kc_text.specs.declared.limits.TheConstants.Limits.{GRAPH}
 use Rattle.kc_claims.specs.Certificates.{TellEach}
-use Rattle.kc_claims.specs.Judging.{HasLookedFor}
+use Rattle.kc_claims.specs.Judging.{AreCounted, HasLookedFor}
 use Rattle.kc_claims.specs.LineFaults.{first_line_fault, last_pair}
 use Rattle.kc_claims.specs.declared.ascending.AscendingCheck.{AscendingCheck}
 use Rattle.kc_claims.specs.declared.claim.Claim.{Claim}
 use Rattle.kc_claims.specs.declared.fault.FaultyLine.{FaultyLine}
-
--- whether the last line of bytes has no line end
-abbrev pub is_cut_off : List ℕ → Bool
-is_cut_off [] = false
-is_cut_off (b ∷ []) = not (is_newline b)
-is_cut_off (b ∷ c ∷ rest) = is_cut_off (c ∷ rest)
-
--- bytes with a line end behind their last line, which may have none
-abbrev pub with_end : List ℕ → List ℕ
-with_end bytes = if is_cut_off bytes then bytes ++ 10 ∷ [] else bytes
 
 -- what is known of a text with one more piece, which begins a line
 abbrev pub with_piece : Option (List ℕ) → Option (List ℕ) → Option (List ℕ)
@@ -49,3 +39,7 @@ pub record HasTakenText (claims : List Claim) (known : Option (List ℕ)) (check
   pub order : List ℕ
   pub looked : HasLookedFor claims order check.insisting check.lines known
   pub room : length looked.insisted.fed.text + check.room ≤ GRAPH.bytes
+
+-- a check has still what the claims tell
+abbrev pub TellsClaims : List Claim → AscendingCheck → Type 0
+TellsClaims claims check = (order : List ℕ) × AreCounted claims order check.insisting.sweep check.lines

@@ -1,17 +1,19 @@
 -- What holds of the graph of a stream.
-use Rattle.std.specs.Prelude.{◌≡◌, ℕ, List, Option, IfSome, All, nat_eq, true}
+use Rattle.std.specs.Prelude.{◌≡◌, ℕ, List, None, Option, Some, IfSome, All, nat_eq, true, ⊤}
 use Rattle.std.specs.List.Sorted.{IsStrictlyIncreasing}
 use Rattle.std.specs.Set.{is_member}
 use Rattle.kc_graph.specs.SimpleGraph.{SimpleGraph}
 use Rattle.kc_text.specs.Inputs.{AreIds, start_graph}
 use Rattle.kc_text.specs.Meaning.{Means, Told, meaning, names}
 use Rattle.kc_text.specs.declared.limits.TheConstants.Limits.{GRAPH}
-use Rattle.kc_claims.specs.Certificates.{IsFirstFault, IsRepeated, IsUnknown}
+use Rattle.kc_claims.specs.Certificates.{AreCertificate, IsFirstFault, IsRepeated, IsUnknown, TellCoreNumbers}
 use Rattle.kc_claims.specs.LineFaults.{HasFaultyLine}
 use Rattle.kc_claims.specs.declared.claim.Claim.{Claim}
 use Rattle.kc_claims.specs.declared.fault.ClaimFault.{ClaimFault}
 use Rattle.kc_claims.specs.declared.fault.ClaimFault.TheVariants.{Unknown, Repeated, Missing, ManyLater, FewSupporters}
 use Rattle.kc_claims.specs.declared.fault.LineFault.TheVariants.{Unclaimed}
+use Rattle.kc_claims.specs.declared.stream.SweptClaims.{SweptClaims}
+use Rattle.kc_claims.specs.declared.stream.SweptClaims.TheVariants as swept
 
 -- The bytes, which are all of what is known of them, mean a graph without batches. This holds of it, and of the ids for which its vertices stand.
 pub record HoldsOfStream (P : List ℕ → SimpleGraph → Type 0) (known : Option (List ℕ)) : Type 0 where
@@ -56,3 +58,18 @@ IsFaultOfStream claims (Repeated claim) known = (ids : List ℕ) × IsRepeated i
 IsFaultOfStream claims (Missing id) known = (line : ℕ) × HasFaultyLine claims known (record { line = line; fault = Unclaimed id })
 IsFaultOfStream claims (ManyLater claim count) known = HoldsOfIds (λ ids g. IsFirstFault ids g claims (ManyLater claim count)) known
 IsFaultOfStream claims (FewSupporters claim count) known = HoldsOfIds (λ ids g. IsFirstFault ids g claims (FewSupporters claim count)) known
+
+-- The claims are a certificate of the graph that the bytes mean, or this is the first fault.
+abbrev pub IsStreamVerdict : List Claim → Option (List ℕ) → Option ClaimFault → Type 0
+IsStreamVerdict claims known None = HoldsOfStream (λ ids g. AreCertificate ids g claims × TellCoreNumbers ids g claims) known
+IsStreamVerdict claims known (Some fault) = HoldsOfStream (λ ids g. IsFirstFault ids g claims fault) known
+
+-- a sweep tells a verdict
+abbrev pub TellsVerdict : SweptClaims → Type 0
+TellsVerdict (swept.Told found) = ⊤
+TellsVerdict (swept.Untold again) = ⊥
+
+-- So a sweep over the bytes tells it, or it gives the claims again.
+abbrev pub IsSwept : List Claim → Option (List ℕ) → SweptClaims → Type 0
+IsSwept claims known (swept.Told found) = IsStreamVerdict claims known found
+IsSwept claims known (swept.Untold again) = again.items ≡ claims

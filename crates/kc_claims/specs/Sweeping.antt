@@ -52,6 +52,14 @@ pub record HasSwept (start now : Sweep) (text : List ℕ) : Type 0 where
   pub told : AreToldBy now.ids.items (all_said text) edges
   pub counted : HasCounted start now edges
 
+-- the vertices are told the same, and as many counts of each kind are kept
+pub record KeepsTold (start now : Sweep) : Type 0 where
+  pub ids : now.ids ≡ start.ids
+  pub core : now.core ≡ start.core
+  pub rank : now.rank ≡ start.rank
+  pub later_each : length now.later.items ≡ length start.later.items
+  pub supporters_each : length now.supporters.items ≡ length start.supporters.items
+
 -- the number of the claim at a place lies between the counts of its vertex
 abbrev pub Agrees : List Claim → List ℕ → List ℕ → List ℕ → ℕ → Type 0
 Agrees claims order later supporters i =

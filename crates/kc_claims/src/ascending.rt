@@ -4,7 +4,7 @@ ghost use Rattle.kc_io.specs.Causes.{Rose};
 ghost use Rattle.kc_claims.specs.Certificates.{AreCertificate, TellCoreNumbers};
 ghost use Rattle.kc_claims.specs.Judging.{AreClaimed};
 ghost use Rattle.kc_claims.specs.LineFaults.{HasFaultyLine};
-ghost use Rattle.kc_claims.specs.Pieces.{HasFaultyPiece, HasTakenText, with_piece};
+ghost use Rattle.kc_claims.specs.Pieces.{HasFaultyPiece, HasTakenText, TellsClaims, with_piece};
 ghost use Rattle.kc_claims.specs.Streams.{HoldsOfStream, IsFaultOfStream};
 ghost use Rattle.kc_claims.specs.Tables.{AreTabled};
 ghost use Rattle.kc_claims.specs.declared.claim.Claim.{Claim};
@@ -66,7 +66,7 @@ fn told_of(fault: Option<FaultyLine>) -> Result<Option<u32>, StreamFault>
 
 impl AscendingCheck {
     /// Nothing was taken.
-    fn new(claimed: Claimed) -> AscendingCheck
+    pub(crate) fn new(claimed: Claimed) -> AscendingCheck
         ensures { (claims : List Claim) (order : List ℕ) → AreClaimed claims order claimed → HasTakenText claims (Some []) result }
     {
         let Claimed { sweep, lines } = claimed;
@@ -112,6 +112,8 @@ impl AscendingCheck {
             → IfOk result (λ found. IfSome found (λ id. IsFaultOfStream claims (ClaimFault.Missing id) (with_piece before (S.left source.old)))) }
         ensures line { (claims : List Claim) (before : Option (List ℕ)) (faulty : FaultyLine) → HasTakenText claims before self.old
             → IsErrOf result (StreamFault.Line faulty) → HasFaultyPiece claims before (S.left source.old) faulty }
+        ensures told { (claims : List Claim) (before : Option (List ℕ)) → HasTakenText claims before self.old → result ≢ Err StreamFault.NoMemory
+            → TellsClaims claims self.new }
         ensures failed { IsErrOf result StreamFault.ReadFault → Rose (S.faults source.old) (S.faults source.new) }
         ensures faultless { result ≢ Err StreamFault.ReadFault → S.faults source.new ≡ S.faults source.old }
     {

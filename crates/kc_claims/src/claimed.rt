@@ -54,7 +54,7 @@ pub(crate) struct Claimed {
 }
 
 /// These ids, ascending, each once.
-pub(crate) fn ascending(ids: Vec<u32>) -> Vec<u32>
+fn ascending(ids: Vec<u32>) -> Vec<u32>
     ensures { IsStrictlyIncreasing result.items }
 {
     let mut ids = ids;
@@ -112,16 +112,27 @@ fn begun(alloc: Global, ids: Vec<u32>, table: ClaimTable) -> Result<Claimed, NoM
     Ok(Claimed { sweep, lines })
 }
 
-/// Begins a sweep for what claims tell the vertices of their ids. They are at fault where they name an id twice. It takes 8 bytes a claim for a
+/// The ids that claims name, ascending, each once.
+pub(crate) fn ids_of(alloc: Global, table: &ClaimTable) -> Result<Vec<u32>, NoMemory>
+    ensures { IfOk result (λ ids. IsStrictlyIncreasing ids.items) }
+{
+    Ok(ascending(Vec::from_slice(alloc, &table.ids)?))
+}
+
+/// Begins a sweep for what claims tell the vertices of these ids. They are at fault where they name one twice. It takes 8 bytes a claim for a
 /// while, and then 8 for the counts. It takes 4 more where a column of places is kept.
-pub(crate) fn begin_table(alloc: Global, table: ClaimTable) -> Result<Claimed, CheckFault>
-    requires { (claims : List Claim) × AreTabled claims table }
+pub(crate) fn begin_for(
+    alloc: Global,
+    ids: Vec<u32>,
+    table: ClaimTable,
+) -> Result<Claimed, CheckFault>
+    requires ascending { IsStrictlyIncreasing ids.items }
+    requires tabled { (claims : List Claim) × AreTabled claims table }
     ensures claimed { IfOk result (λ claimed. (claims : List Claim) → AreTabled claims table → (order : List ℕ) × AreClaimed claims order claimed) }
     ensures faulty { (claims : List Claim) (fault : ClaimFault) → AreTabled claims table → IsErrOf result (CheckFault.Faulty fault)
         → (ids : List ℕ) × ((g : SimpleGraph) → IsFirstFault ids g claims fault) }
 {
     let mut table = table;
-    let ids = ascending(Vec::from_slice(alloc, &table.ids)?);
     if ids.len() > Limits::GRAPH.ids as usize {
         return Err(CheckFault::NoMemory);
     }
@@ -135,4 +146,15 @@ pub(crate) fn begin_table(alloc: Global, table: ClaimTable) -> Result<Claimed, C
         }
         Err(_) => Err(CheckFault::NoMemory),
     }
+}
+
+/// Begins a sweep for what claims tell the vertices of their ids. They are at fault where they name an id twice.
+pub(crate) fn begin_table(alloc: Global, table: ClaimTable) -> Result<Claimed, CheckFault>
+    requires { (claims : List Claim) × AreTabled claims table }
+    ensures claimed { IfOk result (λ claimed. (claims : List Claim) → AreTabled claims table → (order : List ℕ) × AreClaimed claims order claimed) }
+    ensures faulty { (claims : List Claim) (fault : ClaimFault) → AreTabled claims table → IsErrOf result (CheckFault.Faulty fault)
+        → (ids : List ℕ) × ((g : SimpleGraph) → IsFirstFault ids g claims fault) }
+{
+    let ids = ids_of(alloc, &table)?;
+    begin_for(alloc, ids, table)
 }

@@ -150,11 +150,10 @@ impl From<NoMemory> for CheckFault {
     }
 }
 
-/// Why a sweep over a stream tells nothing.
+/// Why not all of a source was handed on.
 #[derive(Clone, Copy, Debug, PartialEq, Eq)]
-pub enum Unswept {
-    /// The stream is not one of edges that ascend between ids that are claimed, or not all of these are named in it. So a graph has to be
-    /// made of it to tell more.
+pub(crate) enum Unswept {
+    /// There are more bytes or lines than may come.
     Unfit,
     /// The source failed.
     ReadFault,

@@ -80,6 +80,7 @@ fn feed_next<S: Source, T: TakesLines>(
         × ((start : T) (text : List ℕ) → HasFed T.taken start taker.old carry.old.items text
         → HasFed T.taken start taker.new carry.new.items (text ++ given))) }
     ensures ended { IfOk result (λ n. n ≡ 0 → IsAtEnd (S.left source.new)) }
+    ensures untouched { IsErrOf result Unswept.ReadFault → taker.new ≡ taker.old }
     ensures failed { IsErrOf result Unswept.ReadFault → Rose (S.faults source.old) (S.faults source.new) }
     ensures faultless { result ≢ Err Unswept.ReadFault → S.faults source.new ≡ S.faults source.old }
 {
@@ -117,6 +118,7 @@ fn feed_pieces<S: Source, T: TakesLines>(
     requires none { carry.old.items ≡ [] }
     requires fresh { T.taken taker.old taker.old [] }
     ensures fed { IfOk result (λ left. (left ≤ most) × IsFedWith T.taken taker.old taker.new (S.left source.old) (most - left)) }
+    ensures so_far { IsErrOf result Unswept.ReadFault → (done : List ℕ) × T.taken taker.old taker.new done }
     ensures failed { IsErrOf result Unswept.ReadFault → Rose (S.faults source.old) (S.faults source.new) }
     ensures faultless { result ≢ Err Unswept.ReadFault → S.faults source.new ≡ S.faults source.old }
 {
@@ -134,7 +136,8 @@ fn feed_pieces<S: Source, T: TakesLines>(
     }
 }
 
-/// Hands on all lines of a source, of which there are to be no more bytes than these. Gives how many are left of them.
+/// Hands on all lines of a source, of which there are to be no more bytes than these. Gives how many are left of them. Where the source fails,
+/// some of its bytes were taken.
 pub(crate) fn feed_within<S: Source, T: TakesLines>(
     alloc: Global,
     source: &mut S,
@@ -143,6 +146,7 @@ pub(crate) fn feed_within<S: Source, T: TakesLines>(
 ) -> Result<usize, Unswept>
     requires { T.taken taker.old taker.old [] }
     ensures fed { IfOk result (λ left. (left ≤ most) × IsFedWith T.taken taker.old taker.new (S.left source.old) (most - left)) }
+    ensures so_far { IsErrOf result Unswept.ReadFault → (done : List ℕ) × T.taken taker.old taker.new done }
     ensures failed { IsErrOf result Unswept.ReadFault → Rose (S.faults source.old) (S.faults source.new) }
     ensures faultless { result ≢ Err Unswept.ReadFault → S.faults source.new ≡ S.faults source.old }
 {

@@ -55,7 +55,14 @@ impl Insisting {
         ensures { OnOk result ((start : Insisting) (before : List ℕ) → EndsLine before → HasInsisted start self.old before
             → HasInsisted start self.new (before ++ lines.now)) }
     {
-        let looked = look(&self.sweep.ids, &self.sweep.places, self.last, lines);
+        self.sweep.edges.clear();
+        let looked = look(
+            &self.sweep.ids,
+            &self.sweep.places,
+            self.last,
+            lines,
+            &mut self.sweep.edges,
+        )?;
         let seen = looked.lines as u64;
         if u64::MAX - self.lines < seen {
             return Err(Untaken::Unfit);
@@ -65,7 +72,7 @@ impl Insisting {
             self.fault = Some(FaultyLine { line, fault });
             return Ok(());
         }
-        self.sweep.take_lines(lines)?;
+        self.sweep.count_put()?;
         self.lines = line;
         self.last = looked.last;
         Ok(())

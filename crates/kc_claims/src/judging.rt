@@ -1,18 +1,27 @@
-//! Tells what is wrong with claims by the counts of their vertices.
-ghost use Rattle.std.specs.Prelude.{◌≡◌, ◌<◌, ℕ, IfSome, List, is_none, length, true};
+//! Tells what is wrong with claims by the counts of their vertices, and the claims again.
+ghost use Rattle.std.specs.Prelude.{◌≡◌, ◌≤◌, ◌<◌, ℕ, IfOk, IfSome, List, is_none, length, slice_set, true};
 ghost use Rattle.kc_graph.specs.Peeling.{at};
 ghost use Rattle.kc_claims.specs.Certificates.{claim_at};
-ghost use Rattle.kc_claims.specs.Insisting.{HasCount, IsCountFault};
+ghost use Rattle.kc_claims.specs.Insisting.{HasCount, IsCountFault, IsFirstUncounted};
 ghost use Rattle.kc_claims.specs.Judging.{AreCounted, HasEach, IsFirstWrong, is_earlier, is_wrong, claim_place};
-ghost use Rattle.kc_claims.specs.Sweeping.{Agrees};
+ghost use Rattle.kc_claims.specs.Sweeping.{Agrees, IsFirstMiscount, IsMiscountOf};
 ghost use Rattle.kc_claims.specs.declared.claim.Claim.{Claim};
 
 use crate::claim::Claim;
 use crate::claimed::{ClaimLines, ClaimPlaces};
 use crate::fault::ClaimFault;
-use crate::stream::miscount_of;
 use crate::stretch::claim_at;
 use crate::sweep::Sweep;
+use kc_graph::NoMemory;
+use std::alloc::Global;
+
+/// It stands for a claim that comes later.
+const NO_CLAIM: Claim = Claim {
+    line: 0,
+    id: 0,
+    number: 0,
+    rank: None,
+};
 
 /// What may be wrong with the counts of a vertex.
 #[derive(Clone, Copy)]
@@ -90,6 +99,77 @@ fn vertex_claim(sweep: &Sweep, lines: &ClaimLines, v: usize) -> Claim
     )
 }
 
+/// Puts a claim at a place.
+fn put_at(claims: &mut Vec<Claim>, place: u32, claim: Claim)
+    requires { place < length claims.old.items }
+    ensures { claims.new.items ≡ slice_set claims.old.items place claim }
+{
+    claims[place as usize] = claim;
+}
+
+/// The claims that vertices are told, in their order. It takes 24 bytes for each.
+pub(crate) fn claims_of(
+    alloc: Global,
+    sweep: &Sweep,
+    lines: &ClaimLines,
+) -> Result<Vec<Claim>, NoMemory>
+    requires { (claims : List Claim) × (order : List ℕ) × AreCounted claims order sweep.now lines.now }
+    ensures { (claims : List Claim) (order : List ℕ) → AreCounted claims order sweep.now lines.now → IfOk result (λ told. told.items ≡ claims) }
+{
+    let mut told = vec![in alloc; NO_CLAIM; sweep.core.len()]?;
+    for v in 0..sweep.core.len() {
+        let place = claim_place(sweep, &lines.places, v);
+        let claim = vertex_claim(sweep, lines, v);
+        put_at(&mut told, place, claim);
+    }
+    Ok(told)
+}
+
+/// What is wrong with a claim by the counts of its vertex, if anything is: there are too many later neighbours, or else too few supporters.
+fn miscount_of(claim: &Claim, later: u32, supporting: u32) -> Option<ClaimFault>
+    ensures found { IfSome result (IsMiscountOf claim.now later supporting) }
+    ensures none { is_none result ≡ true → (later ≤ claim.now.number) × (claim.now.number ≤ supporting) }
+{
+    if claim.number < later {
+        return Some(ClaimFault::ManyLater(*claim, u64::from(later)));
+    }
+    if supporting < claim.number {
+        return Some(ClaimFault::FewSupporters(*claim, u64::from(supporting)));
+    }
+    None
+}
+
+/// What is wrong with the first claim whose number does not lie between the counts of its vertex, if there is one.
+pub(crate) fn first_miscount(sweep: &Sweep, lines: &ClaimLines) -> Option<ClaimFault>
+    requires { (claims : List Claim) × (order : List ℕ) × AreCounted claims order sweep.now lines.now }
+    ensures found { (claims : List Claim) (order : List ℕ) → AreCounted claims order sweep.now lines.now
+        → IfSome result (IsFirstMiscount claims order sweep.now.later.items sweep.now.supporters.items) }
+    ensures agree { (claims : List Claim) (order : List ℕ) → AreCounted claims order sweep.now lines.now → is_none result ≡ true
+        → (i : ℕ) → i < length claims → Agrees claims order sweep.now.later.items sweep.now.supporters.items i }
+{
+    match first_wrong(Wrong::Miscounted, sweep, &lines.places) {
+        Some(v) => {
+            let claim = vertex_claim(sweep, lines, v);
+            miscount_of(&claim, sweep.later[v], sweep.supporters[v])
+        }
+        None => None,
+    }
+}
+
+/// The first claim of whose vertex nothing is counted, if there is one.
+pub(crate) fn first_uncounted(sweep: &Sweep, lines: &ClaimLines) -> Option<Claim>
+    requires { (claims : List Claim) × (order : List ℕ) × AreCounted claims order sweep.now lines.now }
+    ensures found { (claims : List Claim) (order : List ℕ) → AreCounted claims order sweep.now lines.now
+        → IfSome result (IsFirstUncounted claims order sweep.now.later.items sweep.now.supporters.items) }
+    ensures counted { (claims : List Claim) (order : List ℕ) → AreCounted claims order sweep.now lines.now → is_none result ≡ true
+        → (i : ℕ) → i < length claims → HasCount sweep.now.later.items sweep.now.supporters.items (at order i) }
+{
+    match first_wrong(Wrong::Uncounted, sweep, &lines.places) {
+        Some(v) => Some(vertex_claim(sweep, lines, v)),
+        None => None,
+    }
+}
+
 /// What is wrong with the claims by the counts, if anything is: a number, or else an id that no line names.
 pub(crate) fn fault_by_counts(sweep: &Sweep, lines: &ClaimLines) -> Option<ClaimFault>
     requires { (claims : List Claim) × (order : List ℕ) × AreCounted claims order sweep.now lines.now }
@@ -100,12 +180,11 @@ pub(crate) fn fault_by_counts(sweep: &Sweep, lines: &ClaimLines) -> Option<Claim
     ensures counted { (claims : List Claim) (order : List ℕ) → AreCounted claims order sweep.now lines.now → is_none result ≡ true
         → (i : ℕ) → i < length claims → HasCount sweep.now.later.items sweep.now.supporters.items (at order i) }
 {
-    if let Some(v) = first_wrong(Wrong::Miscounted, sweep, &lines.places) {
-        let claim = vertex_claim(sweep, lines, v);
-        return miscount_of(&claim, sweep.later[v], sweep.supporters[v]);
+    if let Some(fault) = first_miscount(sweep, lines) {
+        return Some(fault);
     }
-    match first_wrong(Wrong::Uncounted, sweep, &lines.places) {
-        Some(v) => Some(ClaimFault::Unknown(vertex_claim(sweep, lines, v))),
+    match first_uncounted(sweep, lines) {
+        Some(claim) => Some(ClaimFault::Unknown(claim)),
         None => None,
     }
 }

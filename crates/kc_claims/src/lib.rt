@@ -46,11 +46,11 @@ pub use ascending::{AscendingCheck, check_ascending};
 pub use checking::check_claims;
 pub use claim::Claim;
 pub use fault::{
-    CheckFault, ClaimFault, FaultyLine, LineFault, SourceFault, StreamFault, TextFault, Unswept,
+    CheckFault, ClaimFault, FaultyLine, LineFault, SourceFault, StreamFault, TextFault,
 };
 pub use gathering::claims_from;
 pub use reading::claims_of;
-pub use stream::check_stream;
+pub use stream::{SweptClaims, check_stream};
 pub use table::ClaimTable;
 
 /// A certificate has no fault. So where a check finds one, the claims are none.

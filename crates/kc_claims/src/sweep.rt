@@ -9,13 +9,11 @@ ghost use Rattle.kc_tally.specs.Lists.{last_edge};
 ghost use Rattle.kc_claims.specs.Places.{ArePlaces};
 ghost use Rattle.kc_claims.specs.Sweeping.{AreToldBy, HasCounted, HasSwept};
 
-use crate::edge_line::next_line;
 use crate::fault::Untaken;
-use crate::feeding::TakesLines;
 use crate::places::Places;
 use kc_graph::{Edge, NoMemory};
 use kc_tally::count;
-use kc_text::{Limits, TextLine};
+use kc_text::Limits;
 use std::alloc::Global;
 
 /// The numbers and ranks that vertices are told, and the counts of the edges that came.
@@ -31,7 +29,7 @@ pub(crate) struct Sweep {
     /// How many supporters each vertex has.
     pub(crate) supporters: Vec<u32>,
     /// The edges of the lines that are being taken.
-    edges: Vec<Edge>,
+    pub(crate) edges: Vec<Edge>,
     /// The edge that came last.
     last: Option<Edge>,
     /// How many edges came.
@@ -54,43 +52,6 @@ fn last_edge(before: Option<Edge>, edges: &[Edge]) -> Option<Edge>
         Some(edge) => Some(*edge),
         None => before,
     }
-}
-
-/// Puts the edge that a line tells behind others, between the places of its ids. A line that tells something else, or another id, is unfit.
-fn put(ids: &[u32], places: &Places, line: TextLine, edges: &mut Vec<Edge>) -> Result<(), Untaken>
-    requires ascending { IsStrictlyIncreasing ids.now }
-    requires few { length ids.now < 2 ^ 32 }
-    requires placed { ArePlaces ids.now places.now }
-    ensures { OnOk result ((told : List Edge) × AreToldBy ids.now (line ∷ []) told × (edges.new.items ≡ edges.old.items ++ told)) }
-{
-    match line {
-        TextLine::Nothing => Ok(()),
-        TextLine::Edge(a, b) => {
-            let (Some(u), Some(v)) = (places.place(ids, a), places.place(ids, b)) else {
-                return Err(Untaken::Unfit);
-            };
-            if edges.push(Edge { u, v }).is_err() {
-                return Err(Untaken::NoMemory);
-            }
-            Ok(())
-        }
-        _ => Err(Untaken::Unfit),
-    }
-}
-
-/// Puts the edges that lines tell behind others.
-fn put_all(ids: &[u32], places: &Places, lines: &[u8], edges: &mut Vec<Edge>) -> Result<(), Untaken>
-    requires ascending { IsStrictlyIncreasing ids.now }
-    requires few { length ids.now < 2 ^ 32 }
-    requires placed { ArePlaces ids.now places.now }
-    ensures { OnOk result ((told : List Edge) × AreToldBy ids.now (all_said lines.now) told × (edges.new.items ≡ edges.old.items ++ told)) }
-{
-    let mut rest = lines;
-    while let Some((line, more)) = next_line(rest) {
-        put(ids, places, line, edges)?;
-        rest = more;
-    }
-    Ok(())
 }
 
 impl Sweep {
@@ -128,7 +89,7 @@ impl Sweep {
     }
 
     /// Counts the edges that were put. They are unfit where they don't go on ascending.
-    fn count_put(&mut self) -> Result<(), Untaken>
+    pub(crate) fn count_put(&mut self) -> Result<(), Untaken>
         requires { (start : Sweep) × (before : List Edge) × HasCounted start self.old before }
         ensures { OnOk result ((start : Sweep) (before : List Edge) → HasCounted start self.old before
             → HasCounted start self.new (before ++ self.old.edges.items)) }
@@ -148,21 +109,6 @@ impl Sweep {
         };
         self.count += self.edges.len();
         self.last = last_edge(self.last, &self.edges);
-        Ok(())
-    }
-}
-
-impl TakesLines for Sweep {
-    ghost taken = { HasSwept };
-
-    fn take_lines(&mut self, lines: &[u8]) -> Result<(), Untaken>
-        requires { (start : Sweep) × (before : List ℕ) × HasSwept start self.old before }
-        ensures { OnOk result ((start : Sweep) (before : List ℕ) → EndsLine before → HasSwept start self.old before
-            → HasSwept start self.new (before ++ lines.now)) }
-    {
-        self.edges.clear();
-        put_all(&self.ids, &self.places, lines, &mut self.edges)?;
-        self.count_put()?;
         Ok(())
     }
 }

@@ -1,5 +1,5 @@
 //! The claims of a certificate in columns, so that they take little room.
-ghost use Rattle.std.specs.Prelude.{◌≡◌, ◌<◌, ◌++◌, ◌∷◌, [], List, OnOk, length};
+ghost use Rattle.std.specs.Prelude.{◌≡◌, ◌<◌, ◌++◌, ◌∷◌, [], IfOk, List, OnOk, length};
 ghost use Rattle.kc_graph.specs.Peeling.{at};
 ghost use Rattle.kc_claims.specs.Certificates.{claim_at};
 ghost use Rattle.kc_claims.specs.Tables.{AreColumns, AreTabled, short_rank};
@@ -82,5 +82,30 @@ impl ClaimTable {
             self.numbers[place],
             self.ranks[place],
         )
+    }
+
+    /// The claims, in their order. It takes 24 bytes for each.
+    ///
+    /// # Example
+    ///
+    /// ```rust
+    /// use kc_claims::claims_from;
+    /// use kc_io::mem_source::MemSource;
+    ///
+    /// let text = Vec::from_slice(alloc, b"# an id and its core number\n7 2\n8 2\n")?;
+    /// let mut certificate = MemSource::new(text, 4, Vec::new(alloc)); // four bytes at a time
+    /// let table = claims_from(alloc, &mut certificate)?;
+    /// let claims = table.claims(alloc)?;
+    /// let first = claims.first(); // Some(Claim { line: 2, id: 7, number: 2, rank: None })
+    /// ```
+    pub fn claims(&self, alloc: Global) -> Result<Vec<Claim>, NoMemory>
+        requires { (claims : List Claim) × AreTabled claims self.now }
+        ensures { (claims : List Claim) → AreTabled claims self.now → IfOk result (λ told. told.items ≡ claims) }
+    {
+        let mut told = Vec::with_capacity(alloc, self.ids.len())?;
+        for place in 0..self.ids.len() {
+            told.push(self.claim(place))?;
+        }
+        Ok(told)
     }
 }

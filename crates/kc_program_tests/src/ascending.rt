@@ -1,33 +1,15 @@
-//! Claims beside streams that have to ascend: a triangle of the ids 5, 7 and 8, with 9 that hangs on 8.
+//! Claims beside streams that have to ascend.
+use crate::triangle::{EDGES, ORDER, source_of, table_of};
 use kc_claims::{
     Claim, ClaimFault, FaultyLine, LineFault, SourceFault, StreamFault, check_ascending,
     claims_from,
 };
-use kc_io::mem_source::MemSource;
 use kc_text::{Kind, Refusal};
 use std::process::Abort;
 use std::test::Fail;
 
-/// The edges, one a line, ascending.
-const EDGES: &[u8] = b"# a triangle and one more\n5 7\n5 8\n7\t8\n8 9\n";
-
-/// A certificate: 9 goes first, and the others have two neighbours behind them, one and none.
-pub const ORDER: &[u8] = b"9 1\n5 2\n7 2\n8 2\n";
-
 /// What is told of claims and a stream.
 pub type Told = Result<Option<ClaimFault>, StreamFault>;
-
-/// A source of these bytes, of which each read gives some, and some reads fail.
-pub fn source_of<R: AllocGlobal>(
-    rt: &R,
-    bytes: &[u8],
-    most: usize,
-    fails: &[u32],
-) -> Result<MemSource, Fail> {
-    let text = Vec::from_slice(rt.alloc(), bytes).map_err(|_| "no memory")?;
-    let fails = Vec::from_slice(rt.alloc(), fails).map_err(|_| "no memory")?;
-    Ok(MemSource::new(text, most.max(1), fails))
-}
 
 /// What is told, where each read of either source gives some bytes, and some reads of the edges fail.
 fn told<R: Abort + AllocGlobal>(
@@ -37,12 +19,9 @@ fn told<R: Abort + AllocGlobal>(
     bytes: usize,
     fails: &[u32],
 ) -> Result<Told, Fail> {
-    let mut certificate = source_of(rt, certificate, bytes, &[])?;
+    let table = table_of(rt, certificate, bytes)?;
     let mut source = source_of(rt, edges, bytes, fails)?;
-    match claims_from(rt.alloc(), &mut certificate) {
-        Ok(table) => Ok(check_ascending(rt.alloc(), table, &mut source)),
-        Err(_) => Err("no claims".into()),
-    }
+    Ok(check_ascending(rt.alloc(), table, &mut source))
 }
 
 /// Checks why a certificate gives no claims, whether few bytes come at once or many.

@@ -29,4 +29,6 @@ mod refusals;
 #[cfg(test)]
 mod streams;
 #[cfg(test)]
+mod triangle;
+#[cfg(test)]
 mod words;

@@ -1,6 +1,7 @@
-//! Claims beside an ascending stream that comes in two pieces: a triangle of the ids 5, 7 and 8, with 9 that hangs on 8.
-use crate::ascending::{ORDER, Told, source_of};
-use kc_claims::{AscendingCheck, ClaimFault, FaultyLine, LineFault, StreamFault, claims_from};
+//! Claims beside an ascending stream that comes in two pieces.
+use crate::ascending::Told;
+use crate::triangle::{ORDER, source_of, table_of};
+use kc_claims::{AscendingCheck, ClaimFault, FaultyLine, LineFault, StreamFault};
 use std::process::Abort;
 use std::test::Fail;
 
@@ -12,12 +13,9 @@ fn told<R: Abort + AllocGlobal>(
     most: usize,
     fails: &[u32],
 ) -> Result<Told, Fail> {
-    let mut certificate = source_of(rt, ORDER, most, &[])?;
+    let table = table_of(rt, ORDER, most)?;
     let mut one = source_of(rt, first, most, &[])?;
     let mut two = source_of(rt, second, most, fails)?;
-    let Ok(table) = claims_from(rt.alloc(), &mut certificate) else {
-        return Err("no claims".into());
-    };
     let Ok(mut check) = AscendingCheck::begin(rt.alloc(), table) else {
         return Err("no check".into());
     };

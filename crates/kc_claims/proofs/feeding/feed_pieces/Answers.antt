@@ -82,3 +82,11 @@ returns-in_err-take_last-clause-faultless g c = λ _. c.in_ok-n.ensures.faultles
 
 pub returns-then-n-eq0-clause-faultless : goal.returns-then-n-eq0-clause-faultless
 returns-then-n-eq0-clause-faultless g c = λ _. c.in_ok-n.ensures.faultless (λ e. absurd (cc)) ∙ c.loop-n.invariant.faultless
+
+pub returns-in_err-n-clause-so_far : goal.returns-in_err-n-clause-so_far
+returns-in_err-n-clause-so_far g c = λ of.
+    let (text, took, f, room) = c.loop-n.invariant.fed in (
+      f.done,
+      subst (λ (t : g.row.T.Denot). g.T.TakesLines.taken c.args.taker.now t f.done)
+          (sym (c.in_err-n.ensures.untouched (passed-err c.from_residual.result c.in_err-n.field-0.0 unswept.ReadFault c.from_residual.ensures.1 of))) f.took,
+    )

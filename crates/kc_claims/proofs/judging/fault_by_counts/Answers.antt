@@ -1,75 +1,20 @@
 -- The first claim that does not agree is the fault, or else the first of whose vertex nothing is counted.
-use Rattle.std.proofs.Common.{◌≡◌, ◌<◌, ◌∙◌, List, arith, get_or, length, subst, sym, ℕ}
-use Rattle.std.proofs.lemmas.List.{get_or_default}
-use Rattle.kc_graph.specs.Peeling.{at}
-use Rattle.kc_claims.specs.Insisting.{IsCountFault}
-use Rattle.kc_claims.specs.Sweeping.{IsMiscountOf}
+use Rattle.std.proofs.Common.{refl}
 use Rattle.kc_claims.proofs.Insisted.{IsCountFault-miscount}
-use Rattle.kc_claims.proofs.Judged.{agree-all, counted-all, first-miscount, first-uncounted, has-each, miscounted-not}
-use Rattle.kc_claims.proofs.Streamed.{some-weaker}
 use Rattle.kc_claims.proofs.judging.fault_by_counts.Goals as goal
-
--- what is read of a count is the count
-counted : (counts : List ℕ) (v x : ℕ) → x ≡ get_or counts v x → v < length counts → x ≡ at counts v
-counted counts v x is l = is ∙ sym (get_or_default counts v 0 x l)
-
-pub first_wrong-requires : goal.first_wrong-requires
-first_wrong-requires c =
-    let (claims, order, h) = c.requires in
-    has-each claims order c.args.sweep.now c.args.lines.now h
-
-pub first_wrong-requires-2 : goal.first_wrong-requires-2
-first_wrong-requires-2 c =
-    let (claims, order, h) = c.requires in
-    has-each claims order c.args.sweep.now c.args.lines.now h
 
 pub returns-in-Some-clause-found : goal.returns-in-Some-clause-found
 returns-in-Some-clause-found c = λ claims order h.
+    let found = c.in-Some.ensures.found claims order h in
     let sweep = c.args.sweep.now in
-    let v : ℕ = c.in-Some.v in
-    let later : c.index.result.now ≡ at sweep.later.items v = counted sweep.later.items v c.index.result.now c.index.ensures
-    (omega (arith, c.in-Some.ensures.0, h.later_each)) in
-    let supporting : c.index-in-Some.result.now ≡ at sweep.supporters.items v =
-    counted sweep.supporters.items v c.index-in-Some.result.now c.index-in-Some.ensures (omega (arith, c.in-Some.ensures.0, h.supporters_each)) in
-    some-weaker (IsMiscountOf c.vertex_claim-claim.result c.index.result.now c.index-in-Some.result.now)
-    (IsCountFault claims order sweep.later.items sweep.supporters.items) c.miscount_of.result
-    (λ fault here.
-    IsCountFault-miscount claims order sweep.later.items sweep.supporters.items fault
-    (first-miscount claims order sweep c.args.lines.now h v c.vertex_claim-claim.result (λ i l is. c.vertex_claim-claim.ensures claims order i h l is)
-    c.in-Some.ensures fault
-    (subst (λ n. IsMiscountOf c.vertex_claim-claim.result (at sweep.later.items v) n fault) supporting
-    (subst (λ n. IsMiscountOf c.vertex_claim-claim.result n c.index-in-Some.result.now fault) later here))))
-    c.miscount_of.ensures.found
+    IsCountFault-miscount claims order sweep.later.items sweep.supporters.items c.in-Some.fault found
 
-pub returns-in-Some-clause-agree : goal.returns-in-Some-clause-agree
-returns-in-Some-clause-agree c = λ claims order h none.
-    absurd (miscounted-not claims order c.args.sweep.now c.args.lines.now h c.in-Some.v c.vertex_claim-claim.result
-    (λ i l is. c.vertex_claim-claim.ensures claims order i h l is) c.in-Some.ensures c.index.result.now c.index-in-Some.result.now
-    (counted c.args.sweep.now.later.items c.in-Some.v c.index.result.now c.index.ensures (omega (arith, c.in-Some.ensures.0, h.later_each)))
-    (counted c.args.sweep.now.supporters.items c.in-Some.v c.index-in-Some.result.now c.index-in-Some.ensures
-    (omega (arith, c.in-Some.ensures.0, h.supporters_each))) (c.miscount_of.ensures.none none))
-
-pub returns-in-Some-clause-counted : goal.returns-in-Some-clause-counted
-returns-in-Some-clause-counted c = λ claims order h none.
-    absurd (miscounted-not claims order c.args.sweep.now c.args.lines.now h c.in-Some.v c.vertex_claim-claim.result
-    (λ i l is. c.vertex_claim-claim.ensures claims order i h l is) c.in-Some.ensures c.index.result.now c.index-in-Some.result.now
-    (counted c.args.sweep.now.later.items c.in-Some.v c.index.result.now c.index.ensures (omega (arith, c.in-Some.ensures.0, h.later_each)))
-    (counted c.args.sweep.now.supporters.items c.in-Some.v c.index-in-Some.result.now c.index-in-Some.ensures
-    (omega (arith, c.in-Some.ensures.0, h.supporters_each))) (c.miscount_of.ensures.none none))
-
-pub returns-in-Some-first_wrong-clause-found : goal.returns-in-Some-first_wrong-clause-found
-returns-in-Some-first_wrong-clause-found c = λ claims order h.
-    let sweep = c.args.sweep.now in
-    let lines = c.args.lines.now in (
-      agree-all claims order sweep lines h c.in_default.ensures,
-      first-uncounted claims order sweep lines h c.in-Some-first_wrong.v c.vertex_claim.result (λ i l is. c.vertex_claim.ensures claims order i h l is)
-          c.in-Some-first_wrong.ensures,
-    )
+pub returns-in-Some-first_uncounted-clause-found : goal.returns-in-Some-first_uncounted-clause-found
+returns-in-Some-first_uncounted-clause-found c = λ claims order h.
+    (c.in_default.ensures.agree claims order h refl, c.in-Some-first_uncounted.ensures.found claims order h)
 
 pub returns-in-None-clause-agree : goal.returns-in-None-clause-agree
-returns-in-None-clause-agree c = λ claims order h none.
-    agree-all claims order c.args.sweep.now c.args.lines.now h c.in_default.ensures
+returns-in-None-clause-agree c = λ claims order h none. c.in_default.ensures.agree claims order h refl
 
 pub returns-in-None-clause-counted : goal.returns-in-None-clause-counted
-returns-in-None-clause-counted c = λ claims order h none.
-    counted-all claims order c.args.sweep.now c.args.lines.now h c.in-None.ensures
+returns-in-None-clause-counted c = λ claims order h none. c.in-None.ensures.counted claims order h refl

@@ -1,6 +1,7 @@
 -- No line came of the text, and the sweep is as it was.
 use Rattle.std.proofs.Common.{append-nil, refl, subst, sym}
 use Rattle.kc_claims.specs.Sweeping.{HasSwept}
+use Rattle.kc_claims.proofs.Insisted.{KeepsTold-same}
 use Rattle.kc_claims.proofs.insisting.Insisting.begin_text.Goals as goal
 
 pub returns-clause-begun : goal.returns-clause-begun
@@ -12,4 +13,5 @@ returns-clause-begun c = record {
     lines = refl;
     last = refl;
   };
+  kept = KeepsTold-same c.args.self.now.sweep;
 }

@@ -6,7 +6,7 @@ use Rattle.kc_claims.specs.Certificates.{IsFirstFault, claim_at}
 use Rattle.kc_claims.specs.Placing.{AreVertices, IsSecond}
 use Rattle.kc_claims.specs.declared.fault.ClaimFault.TheVariants as fault
 use Rattle.kc_claims.proofs.Seconds.{IsFirstFault-second}
-use Rattle.kc_claims.proofs.claimed.begin_table.Goals as goal
+use Rattle.kc_claims.proofs.claimed.begin_for.Goals as goal
 
 -- what is written back is all of the column
 back : (now old : List ℕ) (len : ℕ) → length now ≡ length old → len ≡ length old → take len (now ++ drop (length now) old) ≡ now
@@ -17,14 +17,14 @@ returns-in-Ok-begun-clause-claimed c = λ claims tabled.
     let old : List ℕ = c.args.table.ids.items in
     let now : List ℕ = c.place_each.new.column in
     let size : length now ≡ length old = c.place_each.ensures.one_each ∙ ap length c.deref_mut.ensures.value in
-    let placed : AreVertices c.ascending-ids.result.items old now =
-    subst (λ (xs : List ℕ). AreVertices xs old now) c.deref-2.ensures.value
-    (subst (λ (xs : List ℕ). AreVertices c.deref-2.result.now xs now) c.deref_mut.ensures.value c.in-Ok.ensures.placed) in (
+    let placed : AreVertices c.args.ids.items old now =
+    subst (λ (xs : List ℕ). AreVertices xs old now) c.deref.ensures.value
+    (subst (λ (xs : List ℕ). AreVertices c.deref.result.now xs now) c.deref_mut.ensures.value c.in-Ok.ensures.placed) in (
       _,
       c.in-Ok-begun.ensures claims (record {
         column = old;
         told = tabled.ids;
-        placed = subst (AreVertices c.ascending-ids.result.items old) (sym (back now old c.args.table.ids.len size c.args.table.ids.ok.0)) placed;
+        placed = subst (AreVertices c.args.ids.items old) (sym (back now old c.args.table.ids.len size c.args.table.ids.ok.0)) placed;
         columns = tabled.columns;
       }),
     )
