@@ -2,8 +2,8 @@
 //!
 //! It only gives [`answer_on`](kc_cores::program::answer_on) the program's arguments, the standard streams and the files of the system, and
 //! ends with the exit code that it answers. `answer_on` says all over any input and sinks. Of the arguments, the files and the streams of the
-//! operating system no contract can say more than that. It stands on `kc_cores`, `kc_files`, `kc_io` and
-//! `kc_wire`.
+//! operating system no contract can say more than that. Where standard error is a terminal, it also shows there how far a long run is. It
+//! stands on `kc_cores`, `kc_files`, `kc_io`, `kc_progress` and `kc_wire`.
 #![tactic(auto)]
 
 use kc_cores::CoresStreams;
@@ -12,14 +12,17 @@ use kc_cores::std_input::StdInput;
 use kc_cores::std_pipe::StdPipe;
 use kc_files::std_folder::StdFolder;
 use kc_io::std_sink::StdSink;
+use kc_progress::{Silent, TerminalProgress};
 use kc_wire::std_wire::StdWire;
+use std::io::IsTerminal;
 use std::process::ExitCode;
 use std::{env, io};
 
 fn main(rt: HostRuntime) -> ExitCode {
+    let progress = TerminalProgress::new(&rt, rt.stderr().is_terminal());
     let mut streams = CoresStreams {
-        input: StdInput::new(&rt, rt.stdin()),
-        certificate: StdInput::new(&rt, io::empty()),
+        input: StdInput::new(&rt, rt.stdin(), progress),
+        certificate: StdInput::new(&rt, io::empty(), Silent),
         out: StdPipe::new(rt.stdout()),
         err: StdSink::new(rt.stderr()),
         wire: StdWire::new(rt.stdin(), rt.stdout()),

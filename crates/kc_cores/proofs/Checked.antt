@@ -7,21 +7,22 @@ use Rattle.kc_io.specs.declared.sink.Sink as sinks
 use Rattle.kc_io.specs.declared.source.Source as sources
 use Rattle.kc_claims.specs.declared.fault.ClaimFault.{ClaimFault}
 use Rattle.kc_wire.specs.declared.wire.Wire as wires
+use Rattle.kc_wishes.specs.Requests.{RepliesTo}
+use Rattle.kc_wishes.specs.Wishes.{Asks, Checks, ChecksStream, GraphText, Query, StreamQuery, Watches, Wish}
+use Rattle.kc_wishes.specs.declared.words.Reply.TheVariants as reply
+use Rattle.kc_wishes.specs.declared.words.Reply.{Reply}
 use Rattle.kc_cores.specs.Asked.{EndsAsAsked}
 use Rattle.kc_cores.specs.CheckEnded.{CheckEnded, IsRight, IsWrong}
 use Rattle.kc_cores.specs.CoresEnded.{CoresEnded}
-use Rattle.kc_cores.specs.Endings.{HasNoVerdict, HasSaid, NoClaimsAt, NoFileGraphAt, RefutedAt, RepliesTo, line_of}
+use Rattle.kc_cores.specs.Endings.{HasNoVerdict, HasSaid, NoClaimsAt, NoFileGraphAt, RefutedAt, line_of}
 use Rattle.kc_cores.specs.Inputs.{known_bytes}
 use Rattle.kc_cores.specs.Sentences.{no_memory_line, write_fault_line}
 use Rattle.kc_cores.specs.Verdicts.{no_line, yes_line}
 use Rattle.kc_cores.specs.WatchEnded.{WatchEnded}
 use Rattle.kc_cores.specs.StreamChecked.{StreamChecked}
-use Rattle.kc_cores.specs.Wishes.{Asks, Checks, ChecksStream, GraphText, Query, StreamQuery, Watches, Wish}
 use Rattle.kc_cores.specs.declared.CoresStatus.{CoresStatus}
 use Rattle.kc_cores.specs.declared.CoresStatus.TheVariants as status
 use Rattle.kc_cores.specs.declared.ending.Ending.{Ending}
-use Rattle.kc_cores.specs.declared.words.Reply.{Reply}
-use Rattle.kc_cores.specs.declared.words.Reply.TheVariants as reply
 use Rattle.kc_cores.proofs.StreamChecking.{StreamChecked-nothing}
 use Rattle.kc_cores.proofs.Watched.{WatchEnded-nothing}
 

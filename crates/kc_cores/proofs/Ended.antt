@@ -12,13 +12,13 @@ use Rattle.kc_text.specs.Meaning.{Means, Refuses, Told}
 use Rattle.kc_dialect.specs.declared.dialect.Dialect.{Dialect}
 use Rattle.kc_dialect.specs.declared.skipped.SkippedLines.{SkippedLines}
 use Rattle.kc_head.specs.declared.foreign.Foreign.{Foreign}
+use Rattle.kc_wishes.specs.Wishes.{Asks, Query, Wish}
 use Rattle.kc_cores.specs.Answers.{AreLinesFor, IsRefusedBy, graph_meaning, graph_names, labels_of, passed_over, summary_line}
 use Rattle.kc_cores.specs.CoresEnded.{CoresEnded, FaultsAt, IsAnswerTo, IsLineAt, ReaderAt, TookAt, WriteFaultsAt, done_line, given_bytes}
 use Rattle.kc_cores.specs.Endings.{CutAt, NoFileGraphAt}
 use Rattle.kc_cores.specs.Inputs.{IsNamedGraphOf, known_bytes}
 use Rattle.kc_cores.specs.Sentences.{told_foreign}
 use Rattle.kc_cores.specs.Skips.{skipped_report, told_skips}
-use Rattle.kc_cores.specs.Wishes.{Asks, Query, Wish}
 use Rattle.kc_cores.specs.declared.CoresStatus.{CoresStatus}
 use Rattle.kc_cores.specs.declared.CoresStatus.TheVariants as status
 use Rattle.kc_cores.proofs.Looked.{of_known}

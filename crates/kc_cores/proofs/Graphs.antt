@@ -15,8 +15,11 @@ use Rattle.kc_dialect_read.specs.Meanings.{dialect_meaning}
 use Rattle.kc_dialect_read.specs.declared.plain_reader.DialectEdges.{DialectEdges}
 use Rattle.kc_head.specs.declared.foreign.Foreign.{Foreign}
 use Rattle.kc_read.proofs.StartGraphs.{size-start_graph}
-use Rattle.kc_claims.specs.Streams.{HoldsOfStream}
+use Rattle.kc_claims.specs.Certificates.{AreCertificate, IsFirstFault, TellCoreNumbers}
+use Rattle.kc_claims.specs.Streams.{HoldsOfStream, IsSwept}
 use Rattle.kc_claims.specs.declared.claim.Claim.{Claim}
+use Rattle.kc_claims.specs.declared.stream.SweptClaims.{SweptClaims}
+use Rattle.kc_claims.specs.declared.stream.SweptClaims.TheVariants as variants
 use Rattle.kc_cores.specs.Answers.{IsForeignBy, graph_meaning, passed_over}
 use Rattle.kc_cores.specs.CheckEnded.{AreClaimsOf, HoldsOfBoth}
 use Rattle.kc_cores.specs.Inputs.{AreReadFrom, IsGraphOf, IsNamedGraphOf, known_bytes}
@@ -91,6 +94,16 @@ HoldsOfStream-beside left behind i file name beside P named same h =
       named = h.named;
       found = h.found;
     })
+
+-- what a sweep over a file tells, it tells of the bytes of its name
+pub IsSwept-beside : {I : Type 0} (left : I → Option (List ℕ)) (behind : I → List ℕ → Option (List ℕ)) (i : I) (file : Option (List ℕ))
+    (name : List ℕ) (beside : Option (List ℕ)) (claims : List Claim) (swept : SweptClaims) → file ≡ Some name
+    → IfSome (behind i name) (λ all. beside ≡ Some all) → IsSwept claims beside swept → IsSwept claims (known_bytes left behind file i) swept
+IsSwept-beside left behind i file name beside claims (variants.Told None) named same h =
+    HoldsOfStream-beside left behind i file name beside (λ ids g. AreCertificate ids g claims × TellCoreNumbers ids g claims) named same h
+IsSwept-beside left behind i file name beside claims (variants.Told (Some fault)) named same h =
+    HoldsOfStream-beside left behind i file name beside (λ ids g. IsFirstFault ids g claims fault) named same h
+IsSwept-beside left behind i file name beside claims (variants.Untold again) named same h = h
 
 -- a dialect that there is not is none
 pub no_dialect : (dialect : Option Dialect) → is_some dialect ≡ false → dialect ≡ None

@@ -7,9 +7,9 @@ pub mod Listed
 pub mod Looked
 pub mod Placing
 pub mod Replaced
-pub mod Replies
 pub mod Sizing
 pub mod Stopping
 pub mod StreamChecking
 pub mod Unmarked
 pub mod Watched
+pub mod WatchedSaving

@@ -8,12 +8,12 @@ use Rattle.kc_graph.specs.SimpleGraph.{SimpleGraph}
 use Rattle.kc_tally.specs.Layers.{AreLayers}
 use Rattle.kc_lines.specs.Fields.{Label}
 use Rattle.kc_lines.specs.declared.format.Format.{Format}
+use Rattle.kc_wishes.specs.declared.request.Task.TheVariants as task
 use Rattle.kc_cores.specs.Answers.{AreLinesFor, edge_lines, is_in_core, label_at, level_of, member_lines, size_line}
 use Rattle.kc_cores.specs.Lines.{counts_line, edge_line, member_line}
 use Rattle.kc_cores.specs.Listings.{edge_line_in, layer_line_in, listing_lines, member_line_in, size_line_in, vertex_line}
 use Rattle.kc_cores.specs.Sizes.{AreSizes}
 use Rattle.kc_cores.specs.declared.listing.Listing.TheVariants as listing
-use Rattle.kc_cores.specs.declared.request.Task.TheVariants as task
 use Rattle.kc_cores.specs.declared.sizes.CoreSizes.{CoreSizes}
 use Rattle.std.specs.declared.vec.Vec.{Vec}
 use Rattle.std.specs.declared.alloc.Global.{Global}

@@ -1,22 +1,39 @@
 -- A run whose lines become a file ends as it should, and so does any run.
-use Rattle.std.proofs.Common.{◌≡◌, ◌∙◌, ℕ, Bool, List, Option, ap, refl, subst, sym}
+use Rattle.std.proofs.Common.{◌≡◌, ◌∙◌, ℕ, Bool, List, None, Option, Some, ap, refl, subst, sym}
 use Rattle.std.specs.Io.KnownBytes.{IsAtEnd}
 use Rattle.kc_io.specs.Causes.{Rose}
 use Rattle.kc_io.specs.declared.sink.Sink as sinks
 use Rattle.kc_io.specs.declared.source.Source as sources
 use Rattle.kc_wire.specs.declared.wire.Wire as wires
 use Rattle.kc_files.specs.Folders.{AllStay, HasBytes, Held, OthersStay}
+use Rattle.kc_wishes.specs.Requests.{RepliesTo}
+use Rattle.kc_wishes.specs.Wishes.{Asks, Query, SavingPlan, Saves, StreamQuery, Watches, Wish}
+use Rattle.kc_wishes.specs.declared.words.Reply.TheVariants as reply
+use Rattle.kc_wishes.specs.declared.words.Reply.{Reply}
 use Rattle.kc_cores.specs.Asked.{EndsAsAsked}
 use Rattle.kc_cores.specs.CoresEnded.{IsAnswerTo, done_line}
-use Rattle.kc_cores.specs.Endings.{NoFileGraphAt, RepliesTo}
+use Rattle.kc_cores.specs.Endings.{NoFileGraphAt}
 use Rattle.kc_cores.specs.Inputs.{known_bytes}
-use Rattle.kc_cores.specs.Saved.{IsUnsavedLine, RunEnded, SaveEnded, SavedAt}
+use Rattle.kc_cores.specs.Saved.{RunEnded, SaveEnded, SavedAt}
 use Rattle.kc_cores.specs.Sentences.{no_memory_line}
-use Rattle.kc_cores.specs.Wishes.{Asks, Query, Saves, Wish}
+use Rattle.kc_cores.specs.Unsaved.{IsUnsavedLine}
+use Rattle.kc_cores.specs.WatchSaved.{WatchSaved}
 use Rattle.kc_cores.specs.declared.CoresStatus.{CoresStatus}
 use Rattle.kc_cores.specs.declared.CoresStatus.TheVariants as status
-use Rattle.kc_cores.specs.declared.words.Reply.{Reply}
-use Rattle.kc_cores.specs.declared.words.Reply.TheVariants as reply
+use Rattle.kc_cores.proofs.WatchedSaving.{WatchSaved-nothing}
+
+-- words that ask for something else ask for no stream whose states are saved
+pub not_watched : (wish other : Wish) → wish ≡ other → ((query : StreamQuery) → other ≡ Watches query → ⊥) → (query : StreamQuery) (plan : SavingPlan)
+    → wish ≡ Watches query → query.save ≡ Some plan → ⊥
+not_watched wish other is none query plan e saves = none query (sym is ∙ e)
+
+-- words ask for one stream
+pub Watches-one : (query asked : StreamQuery) → Watches query ≡ Watches asked → query ≡ asked
+Watches-one query asked e = cc
+
+-- a stream whose states are not saved has no place for them
+pub unsaved-alone : (query asked : StreamQuery) (plan : SavingPlan) → query.save ≡ None → query ≡ asked → asked.save ≡ Some plan → ⊥
+unsaved-alone query asked plan none is saves = cc
 
 -- words that ask for something else ask for no file
 pub not_saved : (wish other : Wish) → wish ≡ other → ((name : List ℕ) (query : Query) → other ≡ Saves name query → ⊥) → (name : List ℕ) (query : Query)
@@ -62,11 +79,13 @@ module _ {I P : Type 0} (source : sources.Ghosts I) (behind : I → List ℕ →
     -- a run whose lines become no file
     pub RunEnded-asked : (wish : Wish) (end : CoresStatus) (line : List ℕ) (i i' : I) (c c' : C) (o o' : O) (l l' : L) (p p' : P)
         → ((name : List ℕ) (query : Query) → wish ≡ Saves name query → ⊥)
+        → ((query : StreamQuery) (plan : SavingPlan) → wish ≡ Watches query → query.save ≡ Some plan → ⊥)
         → EndsAsAsked source behind kept beside out gone wire wish end line i i' c c' o o' l l' → p' ≡ p
         → RunEnded source behind kept beside out gone wire holds failed wish end line i i' c c' o o' l l' p p'
-    RunEnded-asked wish end line i i' c c' o o' l l' p p' other h stays = record {
+    RunEnded-asked wish end line i i' c c' o o' l l' p p' other unsaved h stays = record {
       save = λ name query e. absurd (other name query e);
-      asked = λ _. (h, stays);
+      watch = λ query plan e saves. absurd (unsaved query plan e saves);
+      asked = λ _ _. (h, stays);
     }
 
     -- a run whose lines become a file
@@ -83,7 +102,26 @@ module _ {I P : Type 0} (source : sources.Ghosts I) (behind : I → List ℕ →
             two,
             three,
           );
-      asked = λ none. absurd (none name query is);
+      watch = λ asked plan e saves. absurd (cc);
+      asked = λ none _. absurd (none name query is);
+    }
+
+    -- a run that answers a stream whose states are saved
+    pub RunEnded-watch : (wish : Wish) (query : StreamQuery) (plan : SavingPlan) (end : CoresStatus) (line : List ℕ) (i i' : I) (c c' : C) (o o' : O)
+        (l l' : L) (p p' : P) → wish ≡ Watches query → query.save ≡ Some plan
+        → WatchSaved source behind wire holds failed query plan end line i i' l l' p p' → c' ≡ c → o' ≡ o
+        → RunEnded source behind kept beside out gone wire holds failed wish end line i i' c c' o o' l l' p p'
+    RunEnded-watch wish query plan end line i i' c c' o o' l l' p p' is saves h one two = record {
+      save = λ name asked e. absurd (cc);
+      watch = λ asked other e also.
+          let q : query ≡ asked = cc in
+          let r : plan ≡ other = cc in (
+            subst (λ (x : StreamQuery). WatchSaved source behind wire holds failed x other end line i i' l l' p p') q
+                (subst (λ (x : SavingPlan). WatchSaved source behind wire holds failed query x end line i i' l l' p p') r h),
+            one,
+            two,
+          );
+      asked = λ _ none. absurd (none query plan is saves);
     }
 
     -- a run that is a reply to its words
@@ -93,9 +131,19 @@ module _ {I P : Type 0} (source : sources.Ghosts I) (behind : I → List ℕ →
         → RunEnded source behind kept beside out gone wire holds failed wish end line i i' c c' o o' l l' p p'
     RunEnded-reply wish r end line i i' c c' o o' l l' p p' replies h one three stays memory = record {
       save = λ name query e. go r name query (subst (RepliesTo r) e replies) memory;
-      asked = λ _. (h, stays);
+      watch = λ query plan e saves. stream r query plan (subst (RepliesTo r) e replies) memory;
+      asked = λ _ _. (h, stays);
     }
       where
+        stream : (r : Reply) (query : StreamQuery) (plan : SavingPlan) → RepliesTo r (Watches query)
+            → (r ≡ reply.NoMemory → (end ≡ status.NoMemory) × (line ≡ no_memory_line) × (i' ≡ i) × (o' ≡ o))
+            → WatchSaved source behind wire holds failed query plan end line i i' l l' p p' × (c' ≡ c) × (o' ≡ o)
+        stream (reply.Asked text) query plan replies memory = absurd replies
+        stream (reply.Mistake text) query plan replies memory = absurd replies
+        stream reply.NoMemory query plan replies memory =
+            let (ended, told, same, two) = memory refl in
+            (WatchSaved-nothing source behind wire holds failed query plan end line i i' l l' p p' ended told same three stays, one, two)
+
         go : (r : Reply) (name : List ℕ) (query : Query) → RepliesTo r (Saves name query)
             → (r ≡ reply.NoMemory → (end ≡ status.NoMemory) × (line ≡ no_memory_line) × (i' ≡ i) × (o' ≡ o))
             → SaveEnded source behind holds failed name query end line i i' p p' × (c' ≡ c) × (o' ≡ o) × (l' ≡ l)

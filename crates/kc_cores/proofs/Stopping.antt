@@ -1,9 +1,9 @@
 -- Why an input gives no graph.
 use Rattle.std.proofs.Common.{◌≡◌, ℕ, List, Option, IfSome}
+use Rattle.kc_wishes.specs.Wishes.{GraphText}
 use Rattle.kc_cores.specs.Answers.{IsRefusedBy}
 use Rattle.kc_cores.specs.Endings.{HasNoGraph, NoGraphAt, RefusalAt, TellsRefusal, line_of}
 use Rattle.kc_cores.specs.Sentences.{GraphRefusal}
-use Rattle.kc_cores.specs.Wishes.{GraphText}
 use Rattle.kc_cores.specs.declared.CoresStatus.{CoresStatus}
 use Rattle.kc_cores.specs.declared.CoresStatus.TheVariants as status
 use Rattle.kc_cores.specs.declared.ending.Ending.{Ending}

@@ -5,9 +5,9 @@ use Rattle.kc_text.specs.declared.refusal.Refusal.{Refusal}
 use Rattle.kc_wire.specs.declared.wire.Wire as wires
 use Rattle.kc_dialogue.specs.declared.end.DialogueEnd.{DialogueEnd}
 use Rattle.kc_dialogue.specs.declared.end.DialogueEnd.TheVariants as dialogue
+use Rattle.kc_wishes.specs.Wishes.{StreamQuery}
 use Rattle.kc_cores.specs.Sentences.{no_memory_line}
 use Rattle.kc_cores.specs.WatchEnded.{HasEndedBy, HasEndedSo, NoFrontAt, WatchEnded}
-use Rattle.kc_cores.specs.Wishes.{StreamQuery}
 use Rattle.kc_cores.specs.declared.CoresStatus.{CoresStatus}
 use Rattle.kc_cores.specs.declared.CoresStatus.TheVariants as status
 

@@ -23,12 +23,12 @@ use Rattle.kc_tally.specs.Layers.{AreLayers}
 use Rattle.kc_lines.specs.Fields.{Label, Name, Number}
 use Rattle.kc_lines.specs.declared.format.Format.{Format}
 use Rattle.kc_names.specs.Names.{name_at}
+use Rattle.kc_wishes.specs.Wishes.{Query}
+use Rattle.kc_wishes.specs.declared.request.Task.TheVariants.{Numbers, Sizes, Members, Edges, Layers, Order}
+use Rattle.kc_wishes.specs.declared.request.Task.{Task}
 use Rattle.kc_cores.specs.Lines.{counts_line, edge_line, layer_line, member_line, number_line}
 use Rattle.kc_cores.specs.Sentences.{GraphRefusal, remark_on, told_foreign}
 use Rattle.kc_cores.specs.Skips.{skipped_report}
-use Rattle.kc_cores.specs.Wishes.{Query}
-use Rattle.kc_cores.specs.declared.request.Task.{Task}
-use Rattle.kc_cores.specs.declared.request.Task.TheVariants.{Numbers, Sizes, Members, Edges, Layers, Order}
 
 -- What the text of a graph means, in a dialect if it is in one: there may be no batch line, and all else may be as much as numbers count. A
 -- byte order mark at its front is no part of it.

@@ -3,11 +3,11 @@ use Rattle.std.specs.Prelude.{◌≡◌, ℕ, Bool, List, Option}
 use Rattle.kc_io.specs.declared.sink.Sink as sinks
 use Rattle.kc_io.specs.declared.source.Source as sources
 use Rattle.kc_wire.specs.declared.wire.Wire as wires
+use Rattle.kc_wishes.specs.Wishes.{Checks, ChecksStream, GraphText, StreamQuery, Watches, Wish}
 use Rattle.kc_cores.specs.CheckEnded.{CheckEnded}
 use Rattle.kc_cores.specs.CoresEnded.{CoresEnded}
 use Rattle.kc_cores.specs.StreamChecked.{StreamChecked}
 use Rattle.kc_cores.specs.WatchEnded.{WatchEnded}
-use Rattle.kc_cores.specs.Wishes.{Checks, ChecksStream, GraphText, StreamQuery, Watches, Wish}
 use Rattle.kc_cores.specs.declared.CoresStatus.{CoresStatus}
 
 -- A run for what the words ask for has ended with this status, and `told` is the line about it. Where they ask for a check or for the answer

@@ -14,12 +14,12 @@ use Rattle.kc_claims.specs.Certificates.{AreCertificate, IsFirstFault, TellCoreN
 use Rattle.kc_claims.specs.Claims.{claims_of}
 use Rattle.kc_claims.specs.declared.claim.Claim.{Claim}
 use Rattle.kc_claims.specs.declared.fault.ClaimFault.{ClaimFault}
+use Rattle.kc_wishes.specs.Wishes.{GraphText}
 use Rattle.kc_cores.specs.Answers.{IsRefusedBy}
 use Rattle.kc_cores.specs.CoresEnded.{IsUnopenedLine, WriteFaultsAt}
 use Rattle.kc_cores.specs.Inputs.{IsGraphOf, known_bytes}
 use Rattle.kc_cores.specs.Sentences.{GraphRefusal, no_memory_line, read_fault_line, refused_line, write_fault_line}
 use Rattle.kc_cores.specs.Verdicts.{claim_refused_line, fault_line, no_line, yes_line}
-use Rattle.kc_cores.specs.Wishes.{GraphText}
 use Rattle.kc_cores.specs.declared.CoresStatus.{CoresStatus}
 use Rattle.kc_cores.specs.declared.CoresStatus.TheVariants as status
 use Rattle.kc_cores.specs.declared.input.FileFault.{FileFault}

@@ -9,10 +9,10 @@ use Rattle.kc_head.specs.declared.foreign.Foreign.{Foreign}
 use Rattle.kc_text.specs.declared.kind.Kind.{Kind}
 use Rattle.kc_text.specs.Meaning.{Means, Refuses, Told}
 use Rattle.clap.specs.Kinds.{Kinds}
+use Rattle.kc_wishes.specs.Wishes.{Asks, Checks, ChecksStream, MayReply, Query, Replies, Saves, Watches, Wish}
 use Rattle.kc_cores.specs.Answers.{IsForeignBy, IsRefusedBy, IsTextFor, graph_meaning}
 use Rattle.kc_cores.specs.Inputs.{known_bytes}
 use Rattle.kc_cores.specs.Sentences.{GraphRefusal, no_memory_line, read_fault_line, refused_line, unopened_line, unopened_short_line, write_fault_line}
-use Rattle.kc_cores.specs.Wishes.{Asks, Checks, ChecksStream, MayReply, Query, Replies, Saves, Watches, Wish}
 use Rattle.kc_cores.specs.declared.CoresStatus.{CoresStatus}
 use Rattle.kc_cores.specs.declared.CoresStatus.TheVariants as status
 use Rattle.kc_cores.specs.declared.input.FileFault.{FileFault}

@@ -1,9 +1,8 @@
--- Where a run ends, and what is replied to words.
-use Rattle.std.specs.Prelude.{◌≡◌, ◌⊎◌, ◌≤◌, ℕ, Bool, Result, Err, List, [], length, take, Option, Some, IfSome, false, map, option_map}
-use Rattle.std.specs.Prelude.{slice_get, string_bytes, true, ⊤}
+-- Where a run ends.
+use Rattle.std.specs.Prelude.{◌≡◌, ◌⊎◌, ◌≤◌, ℕ, Bool, Err, List, [], length, take, Option, Some, IfSome, false}
+use Rattle.std.specs.Prelude.{slice_get, string_bytes, true}
 use Rattle.std.specs.Io.KnownBytes.{Appends}
 use Rattle.kc_io.specs.Causes.{Rose}
-use Rattle.clap.specs.declared.error.kind.ErrorKind.{ErrorKind}
 use Rattle.kc_text.specs.declared.refusal.Refusal.{Refusal}
 use Rattle.kc_claims.specs.Certificates.{AreCertificate, TellCoreNumbers}
 use Rattle.kc_claims.specs.Pieces.{HasFaultyPiece}
@@ -11,6 +10,7 @@ use Rattle.kc_claims.specs.Streams.{HoldsOfStream, IsFaultOfStream}
 use Rattle.kc_claims.specs.declared.claim.Claim.{Claim}
 use Rattle.kc_claims.specs.declared.fault.ClaimFault.{ClaimFault}
 use Rattle.kc_claims.specs.declared.fault.FaultyLine.{FaultyLine}
+use Rattle.kc_wishes.specs.Wishes.{GraphText, StreamStart}
 use Rattle.kc_cores.specs.Answers.{IsRefusedBy}
 use Rattle.kc_cores.specs.CheckEnded.{AreClaimsOf, certificate_meaning}
 use Rattle.kc_cores.specs.CoresEnded.{IsUnopenedLine}
@@ -18,23 +18,12 @@ use Rattle.kc_cores.specs.Sentences.{GraphRefusal, no_memory_line, read_fault_li
 use Rattle.kc_cores.specs.StreamChecked.{IsPieceOf, IsStreamText, faulty_line, files_for, is_several}
 use Rattle.kc_cores.specs.Verdicts.{claim_refused_line, fault_line, no_line}
 use Rattle.kc_cores.specs.WatchEnded.{NoFrontAt}
-use Rattle.kc_cores.specs.Wishes.{Asks, BegunFrom, Checks, ChecksStream, GraphText, MayReply, Query, Saves, StreamQuery}
-use Rattle.kc_cores.specs.Wishes.{StreamStart, Unbegun, Watches, Wish, is_shown}
 use Rattle.kc_cores.specs.declared.CoresStatus.{CoresStatus}
 use Rattle.kc_cores.specs.declared.CoresStatus.TheVariants as status
 use Rattle.kc_cores.specs.declared.ending.Ending.{Ending}
 use Rattle.kc_cores.specs.declared.input.FileFault.{FileFault}
 use Rattle.kc_cores.specs.declared.message.Message.{Message}
 use Rattle.kc_cores.specs.declared.message.Message.TheVariants.{Bytes, Fixed, Made}
-use Rattle.kc_cores.specs.declared.request.NamedText.{NamedText}
-use Rattle.kc_cores.specs.declared.request.Request.{Request}
-use Rattle.kc_cores.specs.declared.request.StreamStart.{StreamStart as RequestedStart}
-use Rattle.kc_cores.specs.declared.request.StreamStart.TheVariants as start
-use Rattle.kc_cores.specs.declared.request.WatchRequest.{WatchRequest}
-use Rattle.kc_cores.specs.declared.request.Wanted.{Wanted}
-use Rattle.kc_cores.specs.declared.request.Wanted.TheVariants as wanted
-use Rattle.kc_cores.specs.declared.words.Reply.{Reply}
-use Rattle.kc_cores.specs.declared.words.Reply.TheVariants as reply
 
 -- the bytes of a line
 abbrev pub message_text : Message → List ℕ
@@ -106,16 +95,6 @@ ClaimRefusalAt _ line name refusal = ⊥
 -- the run ends by this refusal
 abbrev pub TellsClaimRefusal : Ending → List ℕ → Refusal → Type 0
 TellsClaimRefusal ending name refusal = ClaimRefusalAt ending.status (line_of ending) name refusal
-
--- why there are no claims of a text with this meaning: it is refused, or there is no memory
-abbrev pub RefusesClaimsAt : CoresStatus → List ℕ → List ℕ → Result (List Claim) Refusal → Type 0
-RefusesClaimsAt status.Refused line name meaning = (refusal : Refusal) × (line ≡ claim_refused_line name refusal) × (meaning ≡ Err refusal)
-RefusesClaimsAt status.NoMemory line name meaning = line ≡ no_memory_line
-RefusesClaimsAt _ line name meaning = ⊥
-
--- the run ends since a text with this meaning gives no claims
-abbrev pub RefusesClaims : Ending → List ℕ → Result (List Claim) Refusal → Type 0
-RefusesClaims ending name meaning = RefusesClaimsAt ending.status (line_of ending) name meaning
 
 -- a text was said whole, and the run ends as it was to; or a write failed
 abbrev pub HasSaid : Ending → Ending → List ℕ → Option (List ℕ) → Option (List ℕ) → ℕ → ℕ → Type 0
@@ -189,43 +168,6 @@ TellsFaultyLineAt _ line several file faulty = ⊥
 abbrev pub IsCut : Ending → Bool → Type 0
 IsCut ending gone = CutAt ending.status (line_of ending) gone
 
--- what is replied where `clap` has an error of this kind
-abbrev pub IsReplyFor : Reply → ErrorKind → Type 0
-IsReplyFor (reply.Asked text) kind = is_shown kind ≡ true
-IsReplyFor (reply.Mistake text) kind = is_shown kind ≡ false
-IsReplyFor reply.NoMemory kind = ⊤
-
--- what is replied where words ask for this
-abbrev pub RepliesTo : Reply → Wish → Type 0
-RepliesTo (reply.Asked text) wish = MayReply true wish
-RepliesTo (reply.Mistake text) wish = MayReply false wish
-RepliesTo reply.NoMemory wish = ⊤
-
--- the text that words name
-abbrev pub text_of : NamedText → GraphText
-text_of named = record { file = option_map (λ name. name.now) named.file; dialect = named.dialect }
-
--- what a request asks for
-abbrev pub query_of : Request → Query
-query_of request = record { task = request.task; graph = text_of request.graph; format = request.format; quiet = request.quiet }
-
--- what stands in front of a stream, by a request
-abbrev pub start_of : RequestedStart → StreamStart
-start_of start.Nothing = Unbegun
-start_of (start.From name) = BegunFrom name.now
-
--- what a request to answer a stream asks for
-abbrev pub stream_of_request : WatchRequest → StreamQuery
-stream_of_request request = record { options = request.options; start = start_of request.start }
-
 -- the run ends since the file in front of a stream is not read, or there is no memory
 abbrev pub HasNoFront : Ending → (List ℕ → Option (List ℕ)) → StreamStart → ℕ → ℕ → Type 0
 HasNoFront ending known start before after = NoFrontAt ending.status (line_of ending) known start before after
-
--- the request is what words ask for
-abbrev pub IsRequestFor : Wanted → Wish → Type 0
-IsRequestFor (wanted.Lines request) wish = wish ≡ Asks (query_of request)
-IsRequestFor (wanted.Save request) wish = wish ≡ Saves request.file.now (query_of request.lines)
-IsRequestFor (wanted.Check request) wish = wish ≡ Checks request.certificate.now (text_of request.graph)
-IsRequestFor (wanted.CheckStream request) wish = wish ≡ ChecksStream request.certificate.now (map (λ name. name.now) request.files.items)
-IsRequestFor (wanted.Watch request) wish = wish ≡ Watches (stream_of_request request)

@@ -11,9 +11,10 @@ pub mod Saved
 pub mod Sentences
 pub mod Skips
 pub mod StreamChecked
+pub mod Unsaved
 pub mod Verdicts
 pub mod WatchEnded
-pub mod Wishes
+pub mod WatchSaved
 -- What the crate's own functions and invariants speak of.
 pub mod Endings
 pub mod Listings

@@ -1,33 +1,20 @@
 -- How a run ends whose lines become a file, and how any run ends.
-use Rattle.std.specs.Prelude.{◌≡◌, ◌⊎◌, ◌++◌, ℕ, Bool, List, [], ◌∷◌, Option, codes, if◌then◌else◌}
+use Rattle.std.specs.Prelude.{◌≡◌, ℕ, Bool, List, Option, Some}
 use Rattle.std.specs.Io.KnownBytes.{IsAtEnd}
 use Rattle.kc_io.specs.Causes.{Rose}
 use Rattle.kc_io.specs.declared.sink.Sink as sinks
 use Rattle.kc_io.specs.declared.source.Source as sources
 use Rattle.kc_wire.specs.declared.wire.Wire as wires
-use Rattle.kc_files.specs.Faults.{fault_sentence}
 use Rattle.kc_files.specs.Folders.{AllStay, HasBytes, Held, OthersStay}
-use Rattle.kc_files.specs.declared.fault.FolderFault.{FolderFault}
+use Rattle.kc_wishes.specs.Wishes.{Asks, Query, SavingPlan, Saves, StreamQuery, Watches, Wish}
 use Rattle.kc_cores.specs.Asked.{EndsAsAsked}
 use Rattle.kc_cores.specs.CoresEnded.{IsAnswerTo, done_line}
 use Rattle.kc_cores.specs.Endings.{NoFileGraphAt}
 use Rattle.kc_cores.specs.Inputs.{known_bytes}
-use Rattle.kc_cores.specs.Sentences.{write_fault_line}
-use Rattle.kc_cores.specs.Wishes.{Asks, Query, Saves, Wish}
+use Rattle.kc_cores.specs.Unsaved.{IsUnsavedLine}
+use Rattle.kc_cores.specs.WatchSaved.{WatchSaved}
 use Rattle.kc_cores.specs.declared.CoresStatus.{CoresStatus}
 use Rattle.kc_cores.specs.declared.CoresStatus.TheVariants as status
-
--- what is told of a part that could not be taken away
-abbrev pub left_beside : List ℕ → Bool → List ℕ
-left_beside name is_left = if is_left then codes "; " ++ (name ++ codes ".part is left beside it") else []
-
--- `cores: FILE: No space left on device`
-abbrev pub unsaved_line : List ℕ → FolderFault → Bool → List ℕ
-unsaved_line name fault is_left = codes "cores: " ++ (name ++ (codes ": " ++ (fault_sentence fault ++ (left_beside name is_left ++ 10 ∷ []))))
-
--- the line about a file that was not written, which lacks the name where there is no memory for it
-abbrev pub IsUnsavedLine : List ℕ → List ℕ → Type 0
-IsUnsavedLine name line = ((fault : FolderFault) × (is_left : Bool) × (line ≡ unsaved_line name fault is_left)) ⊎ (line ≡ write_fault_line)
 
 -- Where the run is done, the file of this name has just the lines that are asked for. Where it was not written, all files are as they were, and
 -- there were lines to write. At each other status there is no graph, and the folder is as it was.
@@ -51,11 +38,15 @@ SaveEnded source behind holds failed name query end told i i' p p' =
     p p'
 
 -- A run for what the words ask for has ended with this status, and `told` is the line about it. Where its lines become a file it ends as
--- `SaveEnded` says and turns to nothing else, and else as `EndsAsAsked` says, and the folder `p` is as it was.
+-- `SaveEnded` says and turns to nothing else. Where it answers a stream whose states are saved it ends as `WatchSaved` says. Else it ends as
+-- `EndsAsAsked` says, and the folder `p` is as it was.
 pub record RunEnded {I C O L P : Type 0} (source : sources.Ghosts I) (behind : I → List ℕ → Option (List ℕ)) (kept : sources.Ghosts C)
     (beside : C → List ℕ → Option (List ℕ)) (out : sinks.Ghosts O) (gone : O → Bool) (wire : wires.Ghosts L) (holds : P → List ℕ → Held)
     (failed : P → ℕ) (wish : Wish) (end : CoresStatus) (told : List ℕ) (i i' : I) (c c' : C) (o o' : O) (l l' : L) (p p' : P) : Type 0 where
   pub save : (name : List ℕ) (query : Query) → wish ≡ Saves name query
       → SaveEnded source behind holds failed name query end told i i' p p' × (c' ≡ c) × (o' ≡ o) × (l' ≡ l)
+  pub watch : (query : StreamQuery) (plan : SavingPlan) → wish ≡ Watches query → query.save ≡ Some plan
+      → WatchSaved source behind wire holds failed query plan end told i i' l l' p p' × (c' ≡ c) × (o' ≡ o)
   pub asked : ((name : List ℕ) (query : Query) → wish ≡ Saves name query → ⊥)
+      → ((query : StreamQuery) (plan : SavingPlan) → wish ≡ Watches query → query.save ≡ Some plan → ⊥)
       → EndsAsAsked source behind kept beside out gone wire wish end told i i' c c' o o' l l' × (p' ≡ p)

@@ -20,7 +20,9 @@ use Rattle.kc_head.specs.Shown.{shown_place}
 use Rattle.kc_head.specs.Sizes.{may_be_sizes}
 use Rattle.kc_head.specs.declared.foreign.Foreign.{Foreign}
 use Rattle.kc_head.specs.declared.foreign.Foreign.TheVariants.{BareReturns, Json, Marked, SizesFirst}
-use Rattle.kc_cores.specs.Wishes.{GraphText}
+use Rattle.kc_state.specs.Sentences.{state_sentence}
+use Rattle.kc_state.specs.declared.fault.StateFault.{StateFault}
+use Rattle.kc_wishes.specs.Wishes.{GraphText}
 use Rattle.kc_cores.specs.declared.input.FileFault.{FileFault}
 use Rattle.kc_cores.specs.declared.input.FileFault.TheVariants.{Missing, Folder, Forbidden, Other}
 
@@ -177,6 +179,15 @@ refused_behind file lines refusal =
 abbrev pub refused_batches_line : ℕ → List ℕ
 refused_batches_line count =
     if count == 1 then codes "cores: 1 batch was refused\n" else codes "cores: " ++ (decimal count ++ codes " batches were refused\n")
+
+-- `cores: FILE: line 7: the id stands in an earlier line; load a state as --save wrote it, or begin with edges by --from`
+abbrev pub state_refused_line : List ℕ → StateFault → List ℕ
+state_refused_line name fault =
+    codes "cores: "
+    ++ (name
+    ++ (codes ": line "
+    ++ (decimal fault.line
+    ++ (codes ": " ++ (state_sentence fault.kind ++ codes "; load a state as --save wrote it, or begin with edges by --from\n")))))
 
 -- why a file was not opened, in the words of the operating system
 abbrev pub fault_sentence : FileFault → List ℕ

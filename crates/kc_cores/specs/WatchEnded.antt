@@ -6,16 +6,21 @@ use Rattle.kc_io.specs.declared.source.Source as sources
 use Rattle.kc_wire.specs.Events.{TellsMore, WireEvent, read_in}
 use Rattle.kc_wire.specs.declared.wire.Wire as wires
 use Rattle.kc_dialogue.specs.Endings.{HasAnswered, faults_at}
-use Rattle.kc_dialogue.specs.Openings.{behind, with_end}
+use Rattle.kc_io.specs.LineEnds.{with_end}
+use Rattle.kc_dialogue.specs.Openings.{behind}
 use Rattle.kc_dialogue.specs.declared.end.DialogueEnd.{DialogueEnd}
 use Rattle.kc_dialogue.specs.declared.end.DialogueEnd.TheVariants as dialogue
 use Rattle.kc_text.specs.declared.refusal.Refusal.{Refusal}
 use Rattle.kc_stream.specs.Hearing.{Heard, heard_at_end, heard_so_far}
+use Rattle.kc_state.specs.Reading.{IsStateText}
+use Rattle.kc_state.specs.Starts.{start_text}
+use Rattle.kc_state.specs.Texts.{KeptParts}
+use Rattle.kc_state.specs.declared.fault.StateFault.{StateFault}
 use Rattle.kc_watch.specs.Text.{reply, reply_at_end}
 use Rattle.kc_watch.specs.declared.options.WatchOptions.{WatchOptions}
+use Rattle.kc_wishes.specs.Wishes.{BegunFrom, BegunFromState, StreamQuery, StreamStart, Unbegun, file_of}
 use Rattle.kc_cores.specs.CoresEnded.{IsUnopenedLine}
-use Rattle.kc_cores.specs.Sentences.{no_memory_line, read_fault_line, refused_batches_line, refused_behind, write_fault_line}
-use Rattle.kc_cores.specs.Wishes.{BegunFrom, StreamQuery, StreamStart, Unbegun}
+use Rattle.kc_cores.specs.Sentences.{no_memory_line, read_fault_line, refused_batches_line, refused_behind, state_refused_line, write_fault_line}
 use Rattle.kc_cores.specs.declared.CoresStatus.{CoresStatus}
 use Rattle.kc_cores.specs.declared.CoresStatus.TheVariants as status
 use Rattle.kc_cores.specs.declared.input.FileFault.{FileFault}
@@ -62,30 +67,34 @@ pub record StreamAnswered {L : Type 0} (wire : wires.Ghosts L) (options : WatchO
   -- One call has failed where the dialogue ended by it, and no other.
   pub faults : wire.faults l' ≡ faults_at (wire.faults l) how
 
--- the file whose text stands in front of a stream, if there is one
-abbrev pub file_of : StreamStart → Option (List ℕ)
-file_of Unbegun = None
-file_of (BegunFrom name) = Some name
-
--- The bytes in front of a stream: none, or those of a file, all that is known of them, with a newline behind where their last line has not ended.
+-- The bytes in front of a stream: none; or those of a file, all that is known of them, with a newline behind where their last line has not ended; or
+-- the start text of a state, where the bytes of the file are the text of that state. What these say the law `a_start_text_tells_its_state` of `kc_state`
+-- tells.
 abbrev pub StandsInFront : (List ℕ → Option (List ℕ)) → StreamStart → List ℕ → Type 0
 StandsInFront known Unbegun start = start ≡ []
 StandsInFront known (BegunFrom name) start = (bytes : List ℕ) × IfSome (known name) (λ all. bytes ≡ all) × (start ≡ with_end bytes)
+StandsInFront known (BegunFromState name) start =
+    (bytes : List ℕ) × IfSome (known name) (λ all. bytes ≡ all) × ((state : KeptParts) × IsStateText bytes state × (start ≡ start_text state))
 
 -- the file in front of a stream was read to its end, if there is one
 abbrev pub WasReadInFront : StreamStart → Option (List ℕ) → Type 0
 WasReadInFront Unbegun left = ⊤
 WasReadInFront (BegunFrom name) left = IsAtEnd left
+WasReadInFront (BegunFromState name) left = IsAtEnd left
 
 -- there are more bytes than reads can be counted, where they are known
 abbrev pub IsUncounted : Option (List ℕ) → Type 0
 IsUncounted known = IfSome known (λ all. 2 ^ 64 - 1 ≤ length all)
 
--- Why the file in front of a stream is not read, or that there is no memory. The input's count of faults rose where the file was not opened or a read
--- failed.
+-- Why the file in front of a stream is not read, or why it is no state, or that there is no memory. The input's count of faults rose where the file was
+-- not opened or a read failed.
 abbrev pub NoFrontAt : CoresStatus → List ℕ → (List ℕ → Option (List ℕ)) → StreamStart → ℕ → ℕ → Type 0
 NoFrontAt status.Unopened line known (BegunFrom name) before after = (fault : FileFault) × IsUnopenedLine name fault line × Rose before after
+NoFrontAt status.Unopened line known (BegunFromState name) before after = (fault : FileFault) × IsUnopenedLine name fault line × Rose before after
 NoFrontAt status.ReadFault line known (BegunFrom name) before after = (line ≡ read_fault_line) × (Rose before after ⊎ IsUncounted (known name))
+NoFrontAt status.ReadFault line known (BegunFromState name) before after = (line ≡ read_fault_line) × Rose before after
+NoFrontAt status.Refused line known (BegunFromState name) before after =
+    (fault : StateFault) × (line ≡ state_refused_line name fault) × (after ≡ before)
 NoFrontAt status.NoMemory line known start before after = (line ≡ no_memory_line) × (after ≡ before)
 NoFrontAt _ line known start before after = ⊥
 

@@ -1,11 +1,14 @@
 //! The top call.
-ghost use Rattle.std.specs.Prelude.{◌≡◌, ℕ, List, IfErr, IfOk, map, string_bytes};
+ghost use Rattle.std.specs.Prelude.{◌≡◌, ℕ, List, IfErr, IfOk, None, Some, map, string_bytes};
+ghost use Rattle.kc_wishes.specs.Requests.{RepliesTo, query_of, stream_of_request, text_of};
+ghost use Rattle.kc_wishes.specs.Wishes.{Asks, SavingPlan, Wish, wish_of};
 ghost use Rattle.kc_cores.specs.CheckEnded.{CheckEnded};
 ghost use Rattle.kc_cores.specs.CoresEnded.{CoresEnded, ToldLine, done_line};
-ghost use Rattle.kc_cores.specs.Endings.{RepliesTo, line_of, query_of, text_of};
+ghost use Rattle.kc_cores.specs.Endings.{line_of};
 ghost use Rattle.kc_cores.specs.Saved.{RunEnded};
 ghost use Rattle.kc_cores.specs.Sentences.{no_memory_line};
-ghost use Rattle.kc_cores.specs.Wishes.{Asks, Wish, wish_of};
+ghost use Rattle.kc_cores.specs.WatchEnded.{WatchEnded};
+ghost use Rattle.kc_cores.specs.WatchSaved.{WatchSaved};
 
 use crate::checking::{refute, say, verdict_on};
 use crate::ending::{Ending, done_message, finish};
@@ -13,15 +16,15 @@ use crate::input::FileInput;
 use crate::message::Message;
 use crate::pipe::PipeSink;
 use crate::prepared::{Prepared, prepare};
-use crate::request::{CheckRequest, Request, Wanted};
 use crate::saving::save;
 use crate::stream_check::check_stream;
+use crate::watch_saving::watch_saving;
 use crate::watching::watch;
-use crate::words::{Reply, request_of};
 use crate::{CoresStatus, CoresStreams};
 use kc_files::folder::Folder;
 use kc_io::sink::{Sink, write_all};
 use kc_wire::wire::Wire;
+use kc_wishes::{CheckRequest, Reply, Request, Wanted, WatchRequest, request_of};
 use std::alloc::Global;
 use std::convert::AsStr;
 
@@ -122,6 +125,36 @@ fn check<I: FileInput, C: FileInput, O: PipeSink, E, L>(
     }
 }
 
+/// All of a run that answers a stream but its line.
+fn answer_stream<I: FileInput, C, O, E, L: Wire, P: Folder>(
+    alloc: Global,
+    request: WatchRequest<'_>,
+    streams: &mut CoresStreams<I, C, O, E, L>,
+    folder: &mut P,
+) -> Ending
+    ensures saved { (plan : SavingPlan) → (stream_of_request request.entry).save ≡ Some plan
+        → WatchSaved I.Source I.behind L.Wire P.holds P.failed (stream_of_request request.entry) plan result.status (line_of result)
+        streams.old.input streams.new.input streams.old.wire streams.new.wire folder.old folder.new }
+    ensures told { (stream_of_request request.entry).save ≡ None
+        → WatchEnded I.Source I.behind L.Wire (stream_of_request request.entry) result.status (line_of result)
+        streams.old.input streams.new.input streams.old.wire streams.new.wire × (folder.new ≡ folder.old) }
+    ensures certificate { streams.new.certificate ≡ streams.old.certificate }
+    ensures out { streams.new.out ≡ streams.old.out }
+    ensures err { streams.new.err ≡ streams.old.err }
+{
+    match request.save {
+        None => watch(alloc, request, &mut streams.input, &mut streams.wire),
+        Some(plan) => watch_saving(
+            alloc,
+            request,
+            plan,
+            &mut streams.input,
+            &mut streams.wire,
+            folder,
+        ),
+    }
+}
+
 /// All of a run but its line.
 fn work<W: AsStr, I: FileInput, C: FileInput, O: PipeSink, E, L: Wire, P: Folder>(
     alloc: Global,
@@ -140,9 +173,7 @@ fn work<W: AsStr, I: FileInput, C: FileInput, O: PipeSink, E, L: Wire, P: Folder
         Ok(Wanted::Save(request)) => save(alloc, request, &mut streams.input, folder),
         Ok(Wanted::Check(request)) => check(alloc, request, streams),
         Ok(Wanted::CheckStream(request)) => check_stream(alloc, &request, streams),
-        Ok(Wanted::Watch(request)) => {
-            watch(alloc, request, &mut streams.input, &mut streams.wire)
-        }
+        Ok(Wanted::Watch(request)) => answer_stream(alloc, request, streams, folder),
     }
 }
 
@@ -177,6 +208,12 @@ fn work<W: AsStr, I: FileInput, C: FileInput, O: PipeSink, E, L: Wire, P: Folder
 ///   none is refused, and else `Refused`, and the line tells which and why; `NoMemory` where there is none for that line. The other ends
 ///   are `ReadFault`, also after 2^64 - 1 reads, `ReaderGone`, `WriteFault` and `NoMemory`. At `Done` and `ReaderGone` there is no line.
 /// - `faults`: just the call of the wire has failed by which the dialogue ended, and else none.
+///
+/// For a stream whose states are saved it is `WatchSaved`, which says the same, and of the folder:
+///
+/// - `kept`: the file has the text of the state that a front of the stream means, behind its last ended batch, or is as before where none was
+///   saved; at `Done` it is the last state. Other files are as before.
+/// - `ended`: at `WriteFault` the line may tell that a state was not saved, and then the folder's count of failed calls rose.
 ///
 /// For all other words it is `CoresEnded`, and the certificate and the wire are as they were. It has these fields:
 ///

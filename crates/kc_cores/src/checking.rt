@@ -1,10 +1,11 @@
 //! The check of a certificate: what is read for it, and what is said.
-ghost use Rattle.std.specs.Prelude.{◌≡◌, ◌≤◌, IfErr, IfOk, IfSome, None, Ok, OnOk, length};
-ghost use Rattle.kc_text.specs.declared.limits.TheConstants.Limits.{GRAPH};
-ghost use Rattle.kc_claims.specs.Certificates.{AreCertificate, IsFirstFault, TellCoreNumbers};
-ghost use Rattle.kc_claims.specs.Streams.{HoldsOfStream};
-ghost use Rattle.kc_cores.specs.CheckEnded.{AreClaimsOf, IsRight, IsWrong, certificate_meaning};
-ghost use Rattle.kc_cores.specs.Endings.{HasNoClaims, HasNoVerdict, HasSaid, IsRefuted, RefusesClaims, text_of};
+ghost use Rattle.std.specs.Prelude.{◌≡◌, ℕ, IfErr, IfOk, IfSome, List, None, OnOk, Option, Some};
+ghost use Rattle.kc_claims.specs.Streams.{IsSwept, TellsVerdict};
+ghost use Rattle.kc_claims.specs.Tables.{AreTabled, HoldsClaims};
+ghost use Rattle.kc_claims.specs.declared.claim.Claim.{Claim};
+ghost use Rattle.kc_wishes.specs.Requests.{text_of};
+ghost use Rattle.kc_cores.specs.CheckEnded.{AreClaimsOf, IsRight, IsWrong};
+ghost use Rattle.kc_cores.specs.Endings.{HasNoClaims, HasNoFileGraph, HasNoVerdict, HasSaid, IsRefuted};
 ghost use Rattle.kc_cores.specs.Inputs.{known_bytes};
 
 use crate::CoresStatus;
@@ -13,78 +14,56 @@ use crate::ending::{Ending, unopened};
 use crate::input::FileInput;
 use crate::message::Message;
 use crate::reading::read_graph;
-use crate::request::{CheckRequest, NamedText};
 use crate::verdict::{claim_refused, fault_line, no_line};
-use kc_claims::{CheckFault, Claim, ClaimFault, TextFault, check_claims, check_stream, claims_of};
+use kc_claims::{
+    CheckFault, Claim, ClaimFault, ClaimTable, SourceFault, SweptClaims, check_claims,
+    check_stream, claims_from,
+};
+use kc_graph::NoMemory;
 use kc_io::sink::{Sink, write_all};
-use kc_io::source::{ReadAllFault, Source, read_all};
-use kc_text::{Kind, Limits, Refusal};
+use kc_io::source::Source;
+use kc_wishes::{CheckRequest, NamedText};
 use std::alloc::Global;
 
-/// The certificate as a whole is refused.
-const TOO_LONG: Refusal = Refusal {
-    line: 0,
-    kind: Kind::TooLong,
-};
-
-/// The claims of a text that is not too long, or why the run ends.
-fn claims_in(alloc: Global, name: &str, text: &[u8]) -> Result<Vec<Claim>, Ending>
-    requires { length text.now ≤ GRAPH.bytes }
-    ensures claims { IfOk result (λ claims. certificate_meaning text.now ≡ Ok claims.items) }
-    ensures stopped { IfErr result (λ ending. RefusesClaims ending name.now (certificate_meaning text.now)) }
-{
-    match claims_of(alloc, text) {
-        Ok(claims) => Ok(claims),
-        Err(TextFault::Refused(refusal)) => Err(claim_refused(alloc, name, refusal)),
-        Err(TextFault::NoMemory) => Err(Ending::no_memory()),
-    }
-}
-
-/// The claims of all that the source has left.
-fn claims_from<C: Source>(alloc: Global, name: &str, source: &mut C) -> Result<Vec<Claim>, Ending>
-    ensures claims { IfOk result (λ claims. AreClaimsOf (C.left source.old) claims.items) }
+/// The claims of all that the source has left, in columns.
+fn table_from<C: Source>(alloc: Global, name: &str, source: &mut C) -> Result<ClaimTable, Ending>
+    ensures claims { IfOk result (λ table. (claims : List Claim) × HoldsClaims (C.left source.old) claims table) }
     ensures stopped { IfErr result (λ ending. HasNoClaims ending name.now (C.left source.old) (C.faults source.old) (C.faults source.new)) }
     ensures faultless { OnOk result (C.faults source.new ≡ C.faults source.old) }
 {
-    match read_all(alloc, source, Limits::GRAPH.bytes) {
-        Ok(text) => claims_in(alloc, name, &text),
-        Err(ReadAllFault::ReadFault) => Err(Ending::read_fault()),
-        Err(ReadAllFault::TooLong) => Err(claim_refused(alloc, name, TOO_LONG)),
-        Err(ReadAllFault::NoMemory) => Err(Ending::no_memory()),
+    match claims_from(alloc, source) {
+        Ok(table) => Ok(table),
+        Err(SourceFault::Refused(refusal)) => Err(claim_refused(alloc, name, refusal)),
+        Err(SourceFault::ReadFault) => Err(Ending::read_fault()),
+        Err(SourceFault::NoMemory) => Err(Ending::no_memory()),
     }
 }
 
-/// The claims of the certificate of this name.
-fn read_claims<C: FileInput>(
+/// The claims of the certificate of this name, in columns.
+pub(crate) fn read_table<C: FileInput>(
     alloc: Global,
     name: &str,
     certificate: &mut C,
-) -> Result<Vec<Claim>, Ending>
-    ensures claims { IfOk result (λ claims. AreClaimsOf (C.behind certificate.old name.now) claims.items) }
+) -> Result<ClaimTable, Ending>
+    ensures claims { IfOk result (λ table. (claims : List Claim) × HoldsClaims (C.behind certificate.old name.now) claims table) }
     ensures stopped { IfErr result (λ ending. HasNoClaims ending name.now (C.behind certificate.old name.now)
         (C.faults certificate.old) (C.faults certificate.new)) }
     ensures faultless { OnOk result (C.faults certificate.new ≡ C.faults certificate.old) }
 {
     match certificate.open(name) {
-        Ok(()) => claims_from(alloc, name, certificate),
+        Ok(()) => table_from(alloc, name, certificate),
         Err(fault) => Err(unopened(alloc, name, fault)),
     }
 }
 
-/// What the claims are for the graph of a file, by a sweep over its edges as they come. It tells nothing where the text is in a dialect, is
-/// that of no file that can be read beside the input, or is none that a sweep can tell of. Where the file begins with edges that don't
-/// ascend, no sweep begins.
-fn swept<I: FileInput>(
+/// The name of the file of a text that is in no dialect, where it can be read beside the input and begins with edges that ascend.
+fn ascending_file<'a, I: FileInput>(
     alloc: Global,
-    claims: &[Claim],
-    text: NamedText<'_>,
+    text: NamedText<'a>,
     input: &I,
-) -> Option<Option<ClaimFault>>
+) -> Option<&'a str>
     ensures plain { IfSome result (λ _. text.entry.dialect ≡ None) }
-    ensures right { IfSome result (λ found. found ≡ None → HoldsOfStream (λ ids g. AreCertificate ids g claims.now × TellCoreNumbers ids g claims.now)
-        (known_bytes I.left I.behind (text_of text.entry).file input.now)) }
-    ensures wrong { IfSome result (λ found. IfSome found (λ fault. HoldsOfStream (λ ids g. IsFirstFault ids g claims.now fault)
-        (known_bytes I.left I.behind (text_of text.entry).file input.now))) }
+    ensures named { IfSome result (λ name. (text_of text.entry).file ≡ Some name.now) }
 {
     if text.dialect.is_some() {
         return None;
@@ -95,10 +74,52 @@ fn swept<I: FileInput>(
     if !begins_ascending(alloc, &mut input.beside(name)?) {
         return None;
     }
-    let mut file = input.beside(name)?;
-    match check_stream(alloc, claims, &mut file) {
-        Ok(found) => Some(found),
-        Err(_) => None,
+    Some(name)
+}
+
+/// What a sweep over the edges of a file tells of claims, as the edges come. It tells nothing and gives the claims again where the text is in a
+/// dialect, is that of no file that can be read beside the input, or is none that a sweep can tell of. Where the file begins with edges that
+/// don't ascend, no sweep begins.
+fn swept<I: FileInput>(
+    alloc: Global,
+    table: ClaimTable,
+    text: NamedText<'_>,
+    input: &I,
+) -> Result<SweptClaims, NoMemory>
+    requires { (claims : List Claim) × AreTabled claims table }
+    ensures plain { IfOk result (λ swept. TellsVerdict swept → text.entry.dialect ≡ None) }
+    ensures swept { (claims : List Claim) → AreTabled claims table
+        → IfOk result (IsSwept claims (known_bytes I.left I.behind (text_of text.entry).file input.now)) }
+{
+    if let Some(name) = ascending_file(alloc, text, input) {
+        if let Some(mut file) = input.beside(name) {
+            return check_stream(alloc, table, &mut file);
+        }
+    }
+    let claims = table.claims(alloc)?;
+    Ok(SweptClaims::Untold(claims))
+}
+
+/// Reads the graph, and gives the first fault of claims beside it if they have one.
+fn judged<I: FileInput>(
+    alloc: Global,
+    claims: &[Claim],
+    text: NamedText<'_>,
+    input: &mut I,
+) -> Result<Option<ClaimFault>, Ending>
+    ensures right { (certificate : Option (List ℕ)) → AreClaimsOf certificate claims.now → IfOk result (λ found. found ≡ None
+        → IsRight text.entry.dialect (known_bytes I.left I.behind (text_of text.entry).file input.old) certificate) }
+    ensures wrong { (certificate : Option (List ℕ)) → AreClaimsOf certificate claims.now → IfOk result (λ found. IfSome found (λ fault.
+        IsWrong fault text.entry.dialect (known_bytes I.left I.behind (text_of text.entry).file input.old) certificate)) }
+    ensures faultless { OnOk result (I.faults input.new ≡ I.faults input.old) }
+    ensures stopped { IfErr result (λ ending. HasNoFileGraph ending (text_of text.entry)
+        (known_bytes I.left I.behind (text_of text.entry).file input.old) (I.faults input.old) (I.faults input.new)) }
+{
+    let named = read_graph(alloc, text, input)?;
+    match check_claims(alloc, &named.ids, &named.graph, claims) {
+        Ok(()) => Ok(None),
+        Err(CheckFault::Faulty(fault)) => Ok(Some(fault)),
+        Err(CheckFault::NoMemory) => Err(Ending::no_memory()),
     }
 }
 
@@ -121,15 +142,11 @@ pub(crate) fn verdict_on<I: FileInput, C: FileInput>(
         (known_bytes I.left I.behind (text_of request.entry.graph).file input.old) (C.behind certificate.old request.entry.certificate.now)
         (I.faults input.old) (I.faults input.new) (C.faults certificate.old) (C.faults certificate.new)) }
 {
-    let claims = read_claims(alloc, request.certificate, certificate)?;
-    if let Some(found) = swept(alloc, &claims, request.graph, input) {
-        return Ok(found);
-    }
-    let named = read_graph(alloc, request.graph, input)?;
-    match check_claims(alloc, &named.ids, &named.graph, &claims) {
-        Ok(()) => Ok(None),
-        Err(CheckFault::Faulty(fault)) => Ok(Some(fault)),
-        Err(CheckFault::NoMemory) => Err(Ending::no_memory()),
+    let table = read_table(alloc, request.certificate, certificate)?;
+    match swept(alloc, table, request.graph, input) {
+        Ok(SweptClaims::Told(found)) => Ok(found),
+        Ok(SweptClaims::Untold(claims)) => judged(alloc, &claims, request.graph, input),
+        Err(_) => Err(Ending::no_memory()),
     }
 }
 

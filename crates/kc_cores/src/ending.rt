@@ -1,6 +1,7 @@
 //! How a run ends: its status, and the line about it.
 ghost use Rattle.std.specs.Prelude.{◌≡◌, ◌++◌, [], IfOk, option_map, string_bytes};
-ghost use Rattle.kc_cores.specs.Endings.{IsCut, TellsRefusal, line_of, message_text, text_of};
+ghost use Rattle.kc_wishes.specs.Requests.{text_of};
+ghost use Rattle.kc_cores.specs.Endings.{IsCut, TellsRefusal, line_of, message_text};
 ghost use Rattle.kc_cores.specs.Sentences.{at_column, at_place, in_file, refused_front, refused_line, no_memory_line, read_fault_line};
 ghost use Rattle.kc_cores.specs.Sentences.{unopened_line, write_fault_line};
 ghost use Rattle.kc_cores.specs.CoresEnded.{IsUnopenedLine, ToldLine, done_line};
@@ -8,12 +9,12 @@ ghost use Rattle.kc_cores.specs.CoresEnded.{IsUnopenedLine, ToldLine, done_line}
 use crate::CoresStatus;
 use crate::input::FileFault;
 use crate::message::Message;
-use crate::request::NamedText;
 use crate::sentences::refusal_sentence;
 use kc_dialect_read::PlacedRefusal;
 use kc_graph::NoMemory;
 use kc_head::show_place;
 use kc_io::sink::{Sink, write_all};
+use kc_wishes::NamedText;
 use std::alloc::Global;
 
 /// How a run ends. The line is made here, so that ending the run takes no memory.

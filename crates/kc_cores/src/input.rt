@@ -6,6 +6,7 @@ ghost use Rattle.kc_cores.specs.Sentences.{fault_sentence};
 
 use kc_io::NoMemory;
 use kc_io::source::Source;
+use kc_progress::Progress;
 use std::alloc::Global;
 use std::io;
 use std::io::ErrorKind;
@@ -48,8 +49,8 @@ impl From<io::Error> for FileFault {
     }
 }
 
-/// A source that can be turned to a file.
-pub trait FileInput: Source {
+/// A source that can be turned to a file. It is told how far a run is, and may tell that on.
+pub trait FileInput: Source + Progress {
     /// A file that is read beside it.
     type Beside: Source + Drop;
 

@@ -1,9 +1,9 @@
 //! What `cores` does but for its streams: a command on a graph, bytes in and lines out.
 //!
-//! [`answer`](answer::answer) reads the words, then the graph from standard input or a file, and writes the lines that the command asks for.
-//! To the sink of messages it writes one line: what the graph is like where the run is done, and else what was found wrong and how it is
-//! mended. Its promise is one record, `CoresEnded`, with a field for each clause (`specs/CoresEnded.antt`). `specs/Answers.antt` says what
-//! the lines are, `specs/Wishes.antt` what words ask for, and `specs/Sentences.antt` has the lines of messages.
+//! [`answer`](answer::answer) has the words read, then reads the graph from standard input or a file, and writes the lines that the command
+//! asks for. To the sink of messages it writes one line: what the graph is like where the run is done, and else what was found wrong and how
+//! it is mended. Its promise is one record, `CoresEnded`, with a field for each clause (`specs/CoresEnded.antt`). `specs/Answers.antt` says what
+//! the lines are, and `specs/Sentences.antt` has the lines of messages. What words ask for is said and read below, in `kc_wishes`.
 //!
 //! A command is a variant of [`Task`]. What its lines need is made first, as `MadeLines`: so where there is no memory, no line was written.
 //! Lines are then gathered and written in pieces, with tabs or as JSON, so no text of the whole is made.
@@ -20,40 +20,37 @@
 //! With `--output` the lines become a file of a folder, once all of them are written; where a fault comes before, the file is as it was
 //! (`specs/Saved.antt`).
 //!
-//! The options `--columns`, `--separator`, `--skip`, `--bad-lines` and `--ids` tell a dialect, as the end of a file's name does
-//! (`dialect_words`). A text in a dialect means what the text of numbers means for which it stands; without one it is read as it is, but for
-//! a byte order mark. Where ids are names, lines have the names in their place (`labels`). The head of a text is looked at first (`kc_head`):
-//! where the text is refused, it tells what the text is, and shows the line; where it is read and may be no lines of a graph, that is told
-//! (`remarks`).
+//! Words may tell a dialect, as the end of a file's name does. A text in a dialect means what the text of numbers means for which it stands;
+//! without one it is read as it is, but for a byte order mark. Where ids are names, lines have the names in their place (`labels`). The head
+//! of a text is looked at first (`kc_head`): where the text is refused, it tells what the text is, and shows the line; where it is read and
+//! may be no lines of a graph, that is told (`remarks`).
 //!
 //! The crate stands on `kc_io` for sources and sinks, on `kc_text` for what a text means, on `kc_dialect` and `kc_dialect_read` for
 //! dialects, on `kc_names` for names, on `kc_head` for the head of a text, on `kc_flat` and `kc_graph` for core numbers, on `kc_tally` for layers, on
 //! `kc_claims` for certificates, on `kc_wire`, `kc_dialogue`, `kc_stream` and `kc_watch` for streams, on `kc_lines` for lines,
-//! on `kc_files` for files that are replaced whole, and on `clap`.
+//! on `kc_files` for files that are replaced whole, on `kc_wishes` for what words ask for, and on `clap` for the kinds of its replies.
 #![tactic(auto)]
 
 pub mod answer;
 mod ascending;
 mod checking;
-mod dialect_words;
 mod ending;
 mod front;
 pub mod input;
 mod labels;
 mod lines;
 mod listing;
+mod loading;
 mod made_lines;
 pub mod mem_input;
 pub mod mem_pipe;
 pub mod memory;
 mod message;
-mod output_words;
 pub mod pipe;
 mod prepared;
 pub mod program;
 mod reading;
 mod remarks;
-mod request;
 mod saving;
 mod sentences;
 mod sizes;
@@ -65,16 +62,14 @@ mod streams;
 mod summary;
 mod verdict;
 mod vertices;
-mod watch_words;
+mod watch_saving;
 mod watching;
-mod words;
 
 ghost use Rattle.std.specs.Prelude.{◌≡◌};
 ghost use Rattle.kc_cores.specs.Numbers.{exit_number_of};
 
-pub use request::Task;
+pub use kc_wishes::{Task, VERSION};
 pub use streams::CoresStreams;
-pub use words::VERSION;
 
 /// How a run ended.
 #[derive(Clone, Copy, Debug, PartialEq, Eq)]

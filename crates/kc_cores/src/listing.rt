@@ -15,7 +15,6 @@ ghost use Rattle.kc_lines.specs.Pages.{PassesOn, PassesPart};
 use crate::lines::{
     put_counts_line, put_edge_line, put_layer_line, put_member_line, put_number_line,
 };
-use crate::request::Task;
 use crate::sizes::{CoreSizes, sizes_of};
 use crate::summary::greatest;
 use crate::vertices::Vertices;
@@ -26,6 +25,7 @@ use kc_io::sink::Sink;
 use kc_lines::format::Format;
 use kc_lines::page::Page;
 use kc_tally::layers;
+use kc_wishes::Task;
 use std::alloc::Global;
 
 /// What the lines of a task need beside the labels and the core numbers.

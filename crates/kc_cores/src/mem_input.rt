@@ -10,6 +10,7 @@ use crate::input::{FileFault, FileInput};
 use kc_io::mem_source::MemSource;
 use kc_io::source::Source;
 use kc_io::{Failed, NoMemory};
+use kc_progress::Progress;
 use std::alloc::Global;
 use std::marker::Model;
 
@@ -76,6 +77,17 @@ impl Source for MemInput {
             }
         }
     }
+}
+
+/// It does nothing with what it is told.
+impl Progress for MemInput {
+    fn begin(&self) {}
+
+    fn has_read(&self, _bytes: usize) {}
+
+    fn peeled(&self, _core: u32) {}
+
+    fn end(&self) {}
 }
 
 impl FileInput for MemInput {

@@ -3,11 +3,11 @@ ghost use Rattle.std.specs.Prelude.{◌≡◌, ◌++◌, ℕ, List, Option, Some
 ghost use Rattle.kc_files.specs.Folders.{held_in};
 ghost use Rattle.kc_text.specs.Meaning.{Refuses};
 ghost use Rattle.kc_text.specs.declared.kind.Kind.{Kind};
+ghost use Rattle.kc_wishes.specs.Wishes.{Asks, Query, Saves, wish_of};
 ghost use Rattle.kc_cores.specs.Answers.{IsTextFor, graph_meaning, graph_remark};
 ghost use Rattle.kc_cores.specs.CoresEnded.{ToldLine};
 ghost use Rattle.kc_cores.specs.Inputs.{bytes_behind, bytes_in};
 ghost use Rattle.kc_cores.specs.Saved.{RunEnded};
-ghost use Rattle.kc_cores.specs.Wishes.{Asks, Query, Saves, wish_of};
 
 use crate::answer::answer;
 use crate::mem_input::MemInput;

@@ -1,14 +1,15 @@
 //! What is made before anything is written.
 ghost use Rattle.std.specs.Prelude.{◌≡◌, ◌++◌, IfErr, IfOk, OnOk, option_map, string_bytes};
 ghost use Rattle.std.specs.Io.KnownBytes.{IsAtEnd};
+ghost use Rattle.kc_wishes.specs.Requests.{query_of, text_of};
+ghost use Rattle.kc_wishes.specs.Wishes.{Asks};
 ghost use Rattle.kc_cores.specs.Answers.{summary_line};
 ghost use Rattle.kc_cores.specs.CoresEnded.{IsAnswerTo};
-ghost use Rattle.kc_cores.specs.Endings.{HasNoFileGraph, query_of, text_of};
+ghost use Rattle.kc_cores.specs.Endings.{HasNoFileGraph};
 ghost use Rattle.kc_cores.specs.Inputs.{known_bytes};
 ghost use Rattle.kc_cores.specs.Listings.{AreReady, made_text};
 ghost use Rattle.kc_cores.specs.Sentences.{told_foreign};
 ghost use Rattle.kc_cores.specs.Skips.{told_skips};
-ghost use Rattle.kc_cores.specs.Wishes.{Asks};
 
 use crate::ending::Ending;
 use crate::input::FileInput;
@@ -17,14 +18,14 @@ use crate::listing::listing_of;
 use crate::made_lines::MadeLines;
 use crate::reading::{NamedGraph, read_graph};
 use crate::remarks::told_foreign;
-use crate::request::Request;
 use crate::skips::told_skips;
 use crate::summary::summary_line;
 use kc_dialect::SkippedLines;
-use kc_flat::{Decomposition, FlatGraph, decompose};
+use kc_flat::{Decomposition, FlatGraph, decompose_telling};
 use kc_graph::NoMemory;
 use kc_head::Foreign;
 use kc_lines::page::Page;
+use kc_wishes::Request;
 use std::alloc::Global;
 
 /// What a run for a task writes and tells.
@@ -54,8 +55,8 @@ fn told_of(
     format!(in alloc; "{remark}{skips}{summary}")
 }
 
-/// Reads the graph of the input, and makes the lines that are asked for.
-pub(crate) fn prepare<I: FileInput>(
+/// Reads the graph of the input, and makes the lines that are asked for. The input is told how far that is.
+fn made<I: FileInput>(
     alloc: Global,
     request: Request<'_>,
     input: &mut I,
@@ -75,7 +76,7 @@ pub(crate) fn prepare<I: FileInput>(
         skipped,
         what,
     } = read_graph(alloc, request.graph, input)?;
-    let Decomposition { core, order } = decompose(alloc, &graph)?;
+    let Decomposition { core, order } = decompose_telling(alloc, &graph, input)?;
     let told = told_of(alloc, request.graph.file, what, &skipped, &graph, &core)?;
     let listing = listing_of(alloc, request.task, &graph, &core, order)?;
     let page = Page::new(alloc)?;
@@ -88,4 +89,27 @@ pub(crate) fn prepare<I: FileInput>(
         page,
     };
     Ok(Prepared { lines, told })
+}
+
+/// Reads the graph of the input, and makes the lines that are asked for. While it does so the input is told how far that is, but for a run
+/// that is to tell nothing.
+pub(crate) fn prepare<I: FileInput>(
+    alloc: Global,
+    request: Request<'_>,
+    input: &mut I,
+) -> Result<Prepared, Ending>
+    ensures ready { IfOk result (λ prepared. AreReady prepared.lines) }
+    ensures answer { IfOk result (λ prepared. IsAnswerTo (Asks (query_of request.entry))
+        (known_bytes I.left I.behind (query_of request.entry).graph.file input.old) (made_text prepared.lines) (string_bytes prepared.told)) }
+    ensures read { OnOk result (IsAtEnd (I.left input.new)) }
+    ensures faultless { OnOk result (I.faults input.new ≡ I.faults input.old) }
+    ensures stopped { IfErr result (λ ending. HasNoFileGraph ending (text_of request.entry.graph)
+        (known_bytes I.left I.behind (query_of request.entry).graph.file input.old) (I.faults input.old) (I.faults input.new)) }
+{
+    if !request.quiet {
+        input.begin();
+    }
+    let prepared = made(alloc, request, input);
+    input.end();
+    prepared
 }

@@ -3,10 +3,10 @@ ghost use Rattle.std.specs.Prelude.{◌≡◌, ◌≢◌, ◌⊎◌, ℕ, List, 
 ghost use Rattle.std.specs.IoError.{error_kind};
 ghost use Rattle.std.specs.Process.{exit_status};
 ghost use Rattle.kc_args.specs.Words.{AreWords};
+ghost use Rattle.kc_wishes.specs.Wishes.{wish_of};
 ghost use Rattle.kc_cores.specs.CoresEnded.{ToldLine};
 ghost use Rattle.kc_cores.specs.Numbers.{exit_number_of};
 ghost use Rattle.kc_cores.specs.Saved.{RunEnded};
-ghost use Rattle.kc_cores.specs.Wishes.{wish_of};
 ghost use Rattle.kc_cores.specs.declared.CoresStatus.{CoresStatus};
 
 use crate::answer::answer;

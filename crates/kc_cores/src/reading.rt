@@ -2,14 +2,14 @@
 ghost use Rattle.std.specs.FinSet as set;
 ghost use Rattle.std.specs.Prelude.{◌≡◌, ◌≤◌, ℕ, List, None, Option, Some, IfErr, IfOk, IfSome, OnOk, length, option_map};
 ghost use Rattle.std.specs.Io.KnownBytes.{IsAtEnd};
-ghost use Rattle.kc_cores.specs.Endings.{HasNoFileGraph, HasNoGraph, text_of};
+ghost use Rattle.kc_wishes.specs.Requests.{text_of};
+ghost use Rattle.kc_wishes.specs.Wishes.{GraphText};
+ghost use Rattle.kc_cores.specs.Endings.{HasNoFileGraph, HasNoGraph};
 ghost use Rattle.kc_cores.specs.Inputs.{AreReadFrom, HasFewIds, IsLookedAt, IsNamedGraphOf, known_bytes, text_bytes};
-ghost use Rattle.kc_cores.specs.Wishes.{GraphText};
 
 use crate::ending::{Ending, refused, unopened};
 use crate::input::FileInput;
 use crate::remarks::remark_on;
-use crate::request::NamedText;
 use kc_dialect::{Dialect, SkippedLines, without_mark};
 use kc_dialect_read::{DialectEdges, DialectFault, PlacedRefusal, read_edges_in};
 use kc_flat::FlatGraph;
@@ -19,6 +19,7 @@ use kc_io::source::Source;
 use kc_names::Names;
 use kc_read::{InputFault, read_edges};
 use kc_text::{Limits, NamedEdges};
+use kc_wishes::NamedText;
 use std::alloc::Global;
 
 /// A graph, and the ids or names that its vertices stand for.

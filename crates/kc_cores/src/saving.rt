@@ -2,9 +2,11 @@
 ghost use Rattle.std.specs.Prelude.{◌≡◌, ◌++◌, ◌⊎◌, [], IfOk, OnErr, OnOk, string_bytes};
 ghost use Rattle.kc_io.specs.Causes.{HasCause};
 ghost use Rattle.kc_files.specs.Folders.{AllStay, HasBytes, OthersStay};
-ghost use Rattle.kc_cores.specs.Endings.{line_of, query_of};
+ghost use Rattle.kc_wishes.specs.Requests.{query_of};
+ghost use Rattle.kc_cores.specs.Endings.{line_of};
 ghost use Rattle.kc_cores.specs.Listings.{AreReady, made_text};
-ghost use Rattle.kc_cores.specs.Saved.{IsUnsavedLine, SaveEnded, left_beside, unsaved_line};
+ghost use Rattle.kc_cores.specs.Saved.{SaveEnded};
+ghost use Rattle.kc_cores.specs.Unsaved.{IsUnsavedLine, left_beside, unsaved_line};
 
 use crate::CoresStatus;
 use crate::ending::{Ending, done_message};
@@ -12,10 +14,10 @@ use crate::input::FileInput;
 use crate::made_lines::MadeLines;
 use crate::message::Message;
 use crate::prepared::{Prepared, prepare};
-use crate::request::SaveRequest;
 use kc_files::fault::FolderFault;
 use kc_files::folder::{Folder, Unplaced};
 use kc_graph::NoMemory;
+use kc_wishes::SaveRequest;
 use std::alloc::Global;
 
 /// What is told of a part that could not be taken away.
@@ -38,7 +40,7 @@ fn unsaved_line(alloc: Global, name: &str, unplaced: Unplaced) -> Result<String,
 }
 
 /// The file was not written. Where there is no memory for its name, the line lacks it.
-fn unsaved(alloc: Global, name: &str, unplaced: Unplaced) -> Ending
+pub(crate) fn unsaved(alloc: Global, name: &str, unplaced: Unplaced) -> Ending
     ensures status { result.status ≡ CoresStatus.WriteFault }
     ensures line { IsUnsavedLine name.now (line_of result) }
 {

@@ -1,4 +1,4 @@
-//! A reader of std, and the files of the runtime, as an input.
+//! A reader of std, and the files of the runtime, as an input. It tells a progress of what is read.
 ghost use Rattle.std.specs.Prelude.{◌≡◌, ◌<◌, OnErr, OnOk, length};
 ghost use Rattle.std.specs.Io.{ReadsAtMost};
 ghost use Rattle.std.specs.Io.KnownBytes.{ReadConsumes};
@@ -10,6 +10,7 @@ use crate::input::{FileFault, FileInput};
 use kc_io::source::Source;
 use kc_io::std_source::StdSource;
 use kc_io::{Failed, NoMemory};
+use kc_progress::Progress;
 use std::alloc::Global;
 use std::fs;
 use std::fs::OpenFile;
@@ -22,8 +23,9 @@ use std::rt::Files;
 /// Contracts see how many calls have failed: each fault raises the count by one, up to the last value of a `u64`, and nothing else does.
 /// They see no bytes: what the operating system gives is trusted.
 #[derive(Drop)]
-pub struct StdInput<'a, R: Files, S: Read> {
+pub struct StdInput<'a, R: Files, S: Read, P: Progress> {
     files: &'a R,
+    progress: P,
     /// The bytes that were put back.
     front: Option<Front>,
     standard: StdSource<S>,
@@ -31,7 +33,7 @@ pub struct StdInput<'a, R: Files, S: Read> {
     failed: u64,
 }
 
-impl<'a, R: Files, S: Read> Model for StdInput<'a, R, S> {
+impl<'a, R: Files, S: Read, P: Progress> Model for StdInput<'a, R, S, P> {
     ghost use Rattle.kc_cores.specs.Inputs.{Untold};
 
     ghost Value = { Untold };
@@ -56,13 +58,24 @@ fn file_beside<R: Files>(files: &R, name: &str) -> Result<R::File, FileFault> {
     open_file(files, name)
 }
 
-impl<'a, R: Files, S: Read> StdInput<'a, R, S> {
-    /// The reader, of which no call has failed, and no file.
-    pub fn new(files: &'a R, standard: S) -> StdInput<'a, R, S>
+/// What a call has read, once the progress is told of it.
+fn told<P: Progress>(progress: &P, read: Result<usize, Failed>) -> Result<usize, Failed>
+    ensures { result ≡ read }
+{
+    if let Ok(n) = &read {
+        progress.has_read(*n);
+    }
+    read
+}
+
+impl<'a, R: Files, S: Read, P: Progress> StdInput<'a, R, S, P> {
+    /// The reader, of which no call has failed, and no file. The progress is told how many bytes come.
+    pub fn new(files: &'a R, standard: S, progress: P) -> StdInput<'a, R, S, P>
         ensures { result ≡ record { failed = 0 } }
     {
         StdInput {
             files,
+            progress,
             front: None,
             standard: StdSource::new(standard),
             file: None,
@@ -81,13 +94,13 @@ impl<'a, R: Files, S: Read> StdInput<'a, R, S> {
             return Ok(n);
         }
         match &mut self.file {
-            Some(file) => file.read(into),
-            None => self.standard.read(into),
+            Some(file) => told(&self.progress, file.read(into)),
+            None => told(&self.progress, self.standard.read(into)),
         }
     }
 }
 
-impl<'a, R: Files, S: Read> Source for StdInput<'a, R, S> {
+impl<'a, R: Files, S: Read, P: Progress> Source for StdInput<'a, R, S, P> {
     ghost left = { λ _. no_bytes };
 
     ghost faults = { λ s. s.failed };
@@ -109,7 +122,25 @@ impl<'a, R: Files, S: Read> Source for StdInput<'a, R, S> {
     }
 }
 
-impl<'a, R: Files, S: Read> FileInput for StdInput<'a, R, S> {
+impl<'a, R: Files, S: Read, P: Progress> Progress for StdInput<'a, R, S, P> {
+    fn begin(&self) {
+        self.progress.begin()
+    }
+
+    fn has_read(&self, bytes: usize) {
+        self.progress.has_read(bytes)
+    }
+
+    fn peeled(&self, core: u32) {
+        self.progress.peeled(core)
+    }
+
+    fn end(&self) {
+        self.progress.end()
+    }
+}
+
+impl<'a, R: Files, S: Read, P: Progress> FileInput for StdInput<'a, R, S, P> {
     type Beside = StdSource<R::File>;
 
     ghost behind = { λ _ _. no_bytes };

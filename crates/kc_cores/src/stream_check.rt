@@ -3,29 +3,24 @@ ghost use Rattle.std.specs.Prelude.{◌≡◌, ◌<◌, ◌+◌, [], ℕ, List, 
 ghost use Rattle.std.specs.Prelude.{take};
 ghost use Rattle.kc_claims.specs.Pieces.{HasTakenText, with_piece};
 ghost use Rattle.kc_claims.specs.Streams.{IsFaultOfStream};
-ghost use Rattle.kc_claims.specs.Tables.{HoldsClaims};
 ghost use Rattle.kc_claims.specs.declared.claim.Claim.{Claim};
 ghost use Rattle.kc_claims.specs.declared.fault.ClaimFault.{ClaimFault};
-ghost use Rattle.kc_cores.specs.Endings.{HasNoClaims, HasNoStreamVerdict, IsCertifiedStream, IsFaultOfFiles, NoPieceFor, NoStreamFor};
+ghost use Rattle.kc_cores.specs.Endings.{HasNoStreamVerdict, IsCertifiedStream, IsFaultOfFiles, NoPieceFor, NoStreamFor};
 ghost use Rattle.kc_cores.specs.Endings.{TellsFaultyLineAt, line_of};
 ghost use Rattle.kc_cores.specs.StreamChecked.{IsStreamFault, IsStreamRight, IsStreamText, IsTextOfFiles, StreamChecked, descends_sentence};
 ghost use Rattle.kc_cores.specs.StreamChecked.{faulty_line, line_fault_sentence};
 
-use crate::checking::{refute, say};
+use crate::checking::{read_table, refute, say};
 use crate::ending::{Ending, in_file, unopened};
 use crate::input::FileInput;
 use crate::message::Message;
 use crate::pipe::PipeSink;
-use crate::request::StreamRequest;
 use crate::sentences::sentence_of;
-use crate::verdict::claim_refused;
 use crate::{CoresStatus, CoresStreams};
-use kc_claims::{
-    AscendingCheck, CheckFault, ClaimFault, ClaimTable, FaultyLine, LineFault, SourceFault,
-    StreamFault, claims_from,
-};
+use kc_claims::{AscendingCheck, CheckFault, ClaimFault, FaultyLine, LineFault, StreamFault};
 use kc_graph::NoMemory;
 use kc_io::source::Source;
+use kc_wishes::StreamRequest;
 use std::alloc::Global;
 
 /// How edges are mended that do not ascend, by whether they come in several files.
@@ -77,37 +72,6 @@ fn wrong_line(alloc: Global, several: bool, file: Option<&str>, faulty: FaultyLi
             message: Message::Made(line),
         },
         Err(_) => Ending::no_memory(),
-    }
-}
-
-/// The claims of all that the source has left, in columns.
-fn table_from<C: Source>(alloc: Global, name: &str, source: &mut C) -> Result<ClaimTable, Ending>
-    ensures claims { IfOk result (λ table. (claims : List Claim) × HoldsClaims (C.left source.old) claims table) }
-    ensures stopped { IfErr result (λ ending. HasNoClaims ending name.now (C.left source.old) (C.faults source.old) (C.faults source.new)) }
-    ensures faultless { OnOk result (C.faults source.new ≡ C.faults source.old) }
-{
-    match claims_from(alloc, source) {
-        Ok(table) => Ok(table),
-        Err(SourceFault::Refused(refusal)) => Err(claim_refused(alloc, name, refusal)),
-        Err(SourceFault::ReadFault) => Err(Ending::read_fault()),
-        Err(SourceFault::NoMemory) => Err(Ending::no_memory()),
-    }
-}
-
-/// The claims of the certificate of this name, in columns.
-fn read_table<C: FileInput>(
-    alloc: Global,
-    name: &str,
-    certificate: &mut C,
-) -> Result<ClaimTable, Ending>
-    ensures claims { IfOk result (λ table. (claims : List Claim) × HoldsClaims (C.behind certificate.old name.now) claims table) }
-    ensures stopped { IfErr result (λ ending. HasNoClaims ending name.now (C.behind certificate.old name.now)
-        (C.faults certificate.old) (C.faults certificate.new)) }
-    ensures faultless { OnOk result (C.faults certificate.new ≡ C.faults certificate.old) }
-{
-    match certificate.open(name) {
-        Ok(()) => table_from(alloc, name, certificate),
-        Err(fault) => Err(unopened(alloc, name, fault)),
     }
 }
 

@@ -1,19 +1,21 @@
 //! The answer to a stream: the dialogue on the wire, behind the text of a file where one is named, and how the run ends then.
 ghost use Rattle.std.specs.Prelude.{◌≡◌, ◌++◌, [], ℕ, List, IfErr, IfOk, IfSome, None, OnOk, Option, Some, option_map, string_bytes};
 ghost use Rattle.std.specs.Io.KnownBytes.{IsAtEnd};
-ghost use Rattle.kc_dialogue.specs.Openings.{HasOpened, with_end};
+ghost use Rattle.kc_io.specs.LineEnds.{with_end};
+ghost use Rattle.kc_dialogue.specs.Openings.{HasOpened};
 ghost use Rattle.kc_watch.specs.Text.{reply, reply_at_end};
 ghost use Rattle.kc_watch.specs.Watching.{WasFed};
-ghost use Rattle.kc_cores.specs.Endings.{HasNoFront, line_of, start_of, stream_of_request};
+ghost use Rattle.kc_wishes.specs.Requests.{start_of, stream_of_request};
+ghost use Rattle.kc_wishes.specs.Wishes.{BegunFrom, Unbegun};
+ghost use Rattle.kc_cores.specs.Endings.{HasNoFront, line_of};
 ghost use Rattle.kc_cores.specs.Sentences.{at_line, refused_batches_line, refused_behind, stream_refused_line};
 ghost use Rattle.kc_cores.specs.WatchEnded.{HasEndedBy, HasEndedSo, StandsInFront, StreamAnswered, WasReadInFront, WatchEnded};
-ghost use Rattle.kc_cores.specs.Wishes.{BegunFrom, Unbegun};
 
 use crate::CoresStatus;
 use crate::ending::{Ending, in_file, unopened};
 use crate::input::FileInput;
+use crate::loading::open_state;
 use crate::message::Message;
-use crate::request::{StreamStart, WatchRequest};
 use crate::sentences::stream_sentence;
 use kc_dialogue::answer::answer_opened;
 use kc_dialogue::end::DialogueEnd;
@@ -25,13 +27,14 @@ use kc_graph::NoMemory;
 use kc_text::Refusal;
 use kc_watch::Watcher;
 use kc_wire::wire::Wire;
+use kc_wishes::{StreamStart, WatchRequest};
 use std::alloc::Global;
 
 /// What stands in front of a stream: the file, if there is one, and how many of its lines were read.
 #[derive(Clone, Copy)]
-struct StreamFront<'a> {
-    file: Option<&'a str>,
-    lines: u64,
+pub(crate) struct StreamFront<'a> {
+    pub(crate) file: Option<&'a str>,
+    pub(crate) lines: u64,
 }
 
 /// The line of this number, or the input as a whole where none is meant.
@@ -136,7 +139,7 @@ fn end_by(
 }
 
 /// The end of a run whose dialogue has ended so, and which tells this of its stream.
-fn end_so(
+pub(crate) fn end_so(
     alloc: Global,
     front: StreamFront<'_>,
     how: DialogueEnd,
@@ -200,7 +203,7 @@ fn open_from<I: FileInput>(
 }
 
 /// Feeds a watcher that was fed nothing with what stands in front of a stream.
-fn open<I: FileInput>(
+pub(crate) fn open<I: FileInput>(
     alloc: Global,
     start: StreamStart<'_>,
     input: &mut I,
@@ -217,6 +220,7 @@ fn open<I: FileInput>(
 {
     match start {
         StreamStart::From(name) => open_from(alloc, name, input, watcher),
+        StreamStart::Load(name) => open_state(alloc, name, input, watcher),
         StreamStart::Nothing => Ok(Opening {
             text: Vec::new(alloc),
             flow: Flow::Open,

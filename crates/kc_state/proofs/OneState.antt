@@ -13,11 +13,11 @@ use Rattle.kc_lists.proofs.Members.{member-append_left, member-append_right, mem
 use Rattle.kc_lists.proofs.Shared.{get_or-any}
 use Rattle.kc_graph.specs.Certificate.{Enumerates}
 use Rattle.kc_graph.specs.Lawful.{Ranked}
-use Rattle.kc_graph.specs.Neighbours.{neighbours_of}
+use Rattle.kc_graph.specs.Neighbours.{edges_to_greater, neighbours_of}
 use Rattle.kc_graph.specs.Peeling.{at}
 use Rattle.kc_graph.specs.SimpleGraph.{SimpleGraph}
 use Rattle.kc_graph.proofs.Places.{in_order, length-enumerates, place_of-at}
-use Rattle.kc_flat.specs.Listing.{ascending_below, edge_list, edges_to_greater}
+use Rattle.kc_flat.specs.Listing.{ascending_below, edge_list}
 use Rattle.kc_flat.proofs.Listed.{ascending-suc, edge_list-within}
 use Rattle.kc_state.specs.OneState.{AreSame, IsKeptState}
 use Rattle.kc_state.specs.Texts.{KeptParts, body_text, edges_text, ended_by, lines_to_greater, named_line, pair_text, state_text, sum_from}
@@ -101,7 +101,7 @@ flat_map-twice f h k (x ∷ xs) same =
     ∙ sym (flat_map-append h (k x) (flat_map k xs))
 
 -- the lines of all edges are those of the listed edges
-edges-listed : (ids : List ℕ) (g : SimpleGraph) → edges_text ids g ≡ flat_map (edge_line ids) (edge_list g)
+pub edges-listed : (ids : List ℕ) (g : SimpleGraph) → edges_text ids g ≡ flat_map (edge_line ids) (edge_list g)
 edges-listed ids g =
     flat_map-twice (λ v. lines_to_greater ids v (neighbours_of g v)) (edge_line ids) (λ v. edges_to_greater v (neighbours_of g v))
     (ascending_below g.size) (λ v. greater-listed ids v (neighbours_of g v))

@@ -1,5 +1,6 @@
 //! What is wrong with a text that is no state's.
 ghost use Rattle.std.specs.Prelude.{◌≡◌};
+ghost use Rattle.kc_state.specs.Sentences.{state_sentence};
 ghost use Rattle.kc_state.specs.declared.fault.ReadFault.TheVariants as fault;
 
 use crate::NoMemory;
@@ -41,6 +42,34 @@ pub enum StateKind {
     NotCertified,
     /// The line tells what it is to tell, but not as it is written: a number begins with 0.
     OtherForm,
+}
+
+impl StateKind {
+    /// What is wrong with the line.
+    pub fn sentence(self) -> &'static str
+        ensures { result.now ≡ state_sentence self }
+    {
+        match self {
+            StateKind::NotAState => "this is not the first line of a kept state",
+            StateKind::OtherVersion => "the state is of another version of the format",
+            StateKind::NotACount => "a count is missing here: a word and a number",
+            StateKind::TooManyVertices => "there are more than 16,777,216 vertices",
+            StateKind::NotAVertex => "the line of a vertex is missing here: ID CORE PLACE",
+            StateKind::RepeatedId => "the id stands in an earlier line",
+            StateKind::WrongPlace => "no vertex has this place, or an earlier line has it",
+            StateKind::NotAnEdge => "the line of an edge is missing here: A B",
+            StateKind::UnknownId => "an end of the edge is the id of no vertex",
+            StateKind::Loop => "the edge joins an id with itself",
+            StateKind::NotAscending => "the edge does not ascend",
+            StateKind::NotTheEnd => "the line of the check sum is missing here",
+            StateKind::WrongSum => "the check sum is not that of the lines before it",
+            StateKind::TextBehind => "something stands behind the check sum",
+            StateKind::Cut => "the state is cut off here",
+            StateKind::NotCertified =>
+                "the order of the lines so far does not certify their core numbers",
+            StateKind::OtherForm => "a number begins with 0",
+        }
+    }
 }
 
 /// A line that is wrong.

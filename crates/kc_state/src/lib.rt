@@ -7,6 +7,8 @@
 //! [`write_state`] writes the text in pieces, and takes no memory. [`read_state`] takes a text apart, lets `kc_cert` check the order, writes what
 //! came of it again, and compares (`comparing`). So what it gives has just the text that was read. Else it tells the first line that is wrong.
 //! No other state has that text, by the law of `laws`: so of a text that was written it gives what was written.
+//! [`start_text`] is what a stream begins with that goes on from a state.
+//!
 //! The crate stands on `kc_lines` for pages, on `kc_stream` for ids, and on `kc_graph` and `kc_cert` for certified graphs.
 #![tactic(auto)]
 
@@ -16,6 +18,7 @@ mod fault;
 mod kept_state;
 pub mod laws;
 mod reading;
+mod start;
 mod state_line;
 mod summed_page;
 mod text_lines;
@@ -25,6 +28,7 @@ mod writing;
 pub use fault::{ReadFault, StateFault, StateKind};
 pub use kept_state::KeptState;
 pub use reading::read_state;
+pub use start::start_text;
 pub use std::alloc::AllocError as NoMemory;
 pub use writing::write_state;
 

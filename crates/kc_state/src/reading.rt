@@ -191,8 +191,10 @@ fn counts_fit(batches: u64, vertices: u32, edges: u64)
 fn look(state: &KeptState)
     requires one_id_each { length state.now.ids ≡ state.now.lawful.graph.size }
     requires once { Distinct state.now.ids }
-    ensures { IsKeptState (parts_of_state state.now) }
+    ensures kept { IsKeptState (parts_of_state state.now) }
+    ensures few { length state.now.ids ≤ VERTICES }
 {
+    let _count = state.ids.count();
     all_fit(state.ids.names());
     all_fit(state.lawful.core());
     counts_fit(
@@ -212,6 +214,7 @@ pub fn read_state(alloc: Global, text: &[u8]) -> Result<KeptState, ReadFault>
     ensures told { IfOk result (λ state. text.now ≡ state_text (parts_of_state state)) }
     ensures alone { IfOk result (λ state. (s : KeptParts) → IsKeptState s → text.now ≡ state_text s → AreSame s (parts_of_state state)) }
     ensures kept { IfOk result (λ state. IsKeptState (parts_of_state state)) }
+    ensures few { IfOk result (λ state. length state.ids ≤ VERTICES) }
     ensures one_id_each { IfOk result (λ state. length state.ids ≡ state.lawful.graph.size) }
     ensures seidman { IfOk result (λ state. AreCoreNumbers state.lawful.graph state.lawful.core) }
 {

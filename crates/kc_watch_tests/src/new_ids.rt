@@ -1,10 +1,16 @@
 //! Streams whose batches name new ids again and again, so that what is kept has to grow, and has room to spare in between.
+ghost use Rattle.std.specs.Prelude.{◌<◌, ◌≤◌};
+ghost use Rattle.kc_watch_tests.specs.declared.new_ids.TheConstants.{LONGEST};
+
 use crate::streams::{CHANGES, check_dropped, check_with};
 use std::alloc::Global;
 use std::test::Fail;
 
 /// How many batches make the path longer.
 const BATCHES: u32 = 40;
+
+/// With how many ids the longest path begins.
+const LONGEST: u32 = 100;
 
 /// A stream, and what it is answered.
 #[derive(Drop)]
@@ -13,14 +19,27 @@ struct Example {
     wanted: String,
 }
 
-/// A path that gets longer by one id a batch. Before each batch ends there are questions, which what has no id would change.
-fn longer_path(alloc: Global) -> Result<Example, Fail> {
+/// Puts the edges of a path of so many ids.
+fn put_path(stream: &mut String, ids: u32) -> Result<(), Fail> {
+    for id in 1..ids {
+        let next = id + 1;
+        writeln!(stream, "{id} {next}")?;
+    }
+    Ok(())
+}
+
+/// A path of so many ids that gets longer by one a batch. Before each batch ends there are questions, which what has no id would change.
+fn longer_path(alloc: Global, first: u32) -> Result<Example, Fail>
+    requires { (1 < first) × (first ≤ LONGEST) }
+{
     let mut stream = String::new(alloc);
     let mut wanted = String::new(alloc);
-    stream.push_str("1 2\nbatch\n")?;
-    wanted.push_str("graph vertices 2 edges 1 top 1\n")?;
+    put_path(&mut stream, first)?;
+    stream.push_str("batch\n")?;
+    let edges = first - 1;
+    writeln!(wanted, "graph vertices {first} edges {edges} top 1")?;
     for batch in 1..BATCHES {
-        let (last, new) = (batch + 1, batch + 2);
+        let (last, new) = (batch + first - 1, batch + first);
         writeln!(
             stream,
             "? sizes\n? order 1 {last}\n? order {new} 1\n? {new}\n? order 1 2"
@@ -35,16 +54,25 @@ fn longer_path(alloc: Global) -> Result<Example, Fail> {
             "batch {batch} added 1 removed 0 kept 0 edges {last} top 1\n{new} - 1"
         )?;
     }
+    let edges = BATCHES + first - 2;
     writeln!(
         wanted,
-        "batch {BATCHES} added 0 removed 0 kept 0 edges {BATCHES} top 1"
+        "batch {BATCHES} added 0 removed 0 kept 0 edges {edges} top 1"
     )?;
     Ok(Example { stream, wanted })
 }
 
 #[test]
 fn a_path_gets_longer_in_each_batch(rt: HostRuntime) -> Result<(), Fail> {
-    let Example { stream, wanted } = longer_path(rt.alloc())?;
+    let Example { stream, wanted } = longer_path(rt.alloc(), 2)?;
+    check_with(&rt, CHANGES, stream.as_bytes(), wanted.as_bytes());
+    Ok(())
+}
+
+/// The graph of the start has room to spare for some of the ids that come.
+#[test]
+fn a_long_path_gets_longer_in_each_batch(rt: HostRuntime) -> Result<(), Fail> {
+    let Example { stream, wanted } = longer_path(rt.alloc(), LONGEST)?;
     check_with(&rt, CHANGES, stream.as_bytes(), wanted.as_bytes());
     Ok(())
 }

@@ -1,6 +1,6 @@
 -- There is no verdict, or no was said, or yes.
 use Rattle.std.proofs.Common.{refl}
-use Rattle.kc_cores.specs.Endings.{text_of}
+use Rattle.kc_wishes.specs.Requests.{text_of}
 use Rattle.kc_cores.proofs.Checked.{CheckEnded-no_verdict, CheckEnded-right, CheckEnded-wrong}
 use Rattle.kc_cores.proofs.answer.check.Goals as goal
 

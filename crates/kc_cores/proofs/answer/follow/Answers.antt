@@ -3,7 +3,8 @@ use Rattle.std.proofs.Common.{◌≡◌, ◌∙◌, Bool, Result, Ok, Err, subst
 use Rattle.std.specs.Prelude.{IfErr, string_bytes}
 use Rattle.std.specs.Result.{IsErrAnd}
 use Rattle.kc_read.proofs.Outcomes.{at_err, at_ok}
-use Rattle.kc_cores.specs.Endings.{CutAt, line_of, query_of}
+use Rattle.kc_wishes.specs.Requests.{query_of}
+use Rattle.kc_cores.specs.Endings.{CutAt, line_of}
 use Rattle.kc_cores.specs.Listings.{made_text}
 use Rattle.kc_cores.proofs.Ended.{CoresEnded-cut, CoresEnded-done, CoresEnded-no_graph}
 use Rattle.kc_cores.proofs.answer.follow.Goals as goal

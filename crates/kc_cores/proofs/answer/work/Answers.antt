@@ -1,8 +1,10 @@
 -- A reply, a listing, a file, a check and the answer to a stream each end as the words ask for.
-use Rattle.std.proofs.Common.{map, refl}
-use Rattle.kc_cores.specs.Endings.{line_of, query_of, stream_of_request, text_of}
-use Rattle.kc_cores.specs.Wishes.{wish_of}
-use Rattle.kc_cores.proofs.Replaced.{RunEnded-asked, RunEnded-reply, RunEnded-save, not_saved}
+use Rattle.std.proofs.Common.{◌≡◌, ◌∙◌, Option, None, Some, map, refl, sym}
+use Rattle.kc_wishes.specs.Requests.{query_of, stream_of_request, text_of}
+use Rattle.kc_wishes.specs.Wishes.{SavingPlan, wish_of}
+use Rattle.kc_cores.specs.Endings.{line_of}
+use Rattle.kc_cores.specs.Saved.{RunEnded}
+use Rattle.kc_cores.proofs.Replaced.{RunEnded-asked, RunEnded-reply, RunEnded-save, RunEnded-watch, Watches-one, not_saved, not_watched, unsaved-alone}
 use Rattle.kc_cores.proofs.Checked.{EndsAsAsked-check, EndsAsAsked-lines, EndsAsAsked-reply, EndsAsAsked-stream, EndsAsAsked-watch}
 use Rattle.kc_cores.proofs.answer.work.Goals as goal
 
@@ -33,7 +35,8 @@ returns-in-Ok-Lines-clause-ended g c =
     RunEnded-asked g.I.Source g.I.FileInput.behind g.P.Folder.holds g.P.Folder.failed g.C.Source g.C.FileInput.behind g.O.Sink g.O.PipeSink.gone g.L.Wire
     (wish_of (map g.W.AsStr.text c.args.words.now)) c.list.result.status (line_of c.list.result) c.args.streams.now.input c.list.new.streams.input
     c.args.streams.now.certificate c.list.new.streams.certificate c.args.streams.now.out c.list.new.streams.out c.args.streams.now.wire c.list.new.streams.wire
-    c.args.folder.now c.args.folder.now (not_saved _ _ asks (λ name query e. absurd (cc))) ended refl
+    c.args.folder.now c.args.folder.now (not_saved _ _ asks (λ name query e. absurd (cc)))
+    (not_watched _ _ asks (λ query e. absurd (cc))) ended refl
 
 pub returns-in-Ok-Save-clause-ended : goal.returns-in-Ok-Save-clause-ended
 returns-in-Ok-Save-clause-ended g c =
@@ -57,7 +60,8 @@ returns-in-Ok-Check-clause-ended g c =
     (wish_of (map g.W.AsStr.text c.args.words.now)) c.check.result.status (line_of c.check.result) c.args.streams.now.input c.check.new.streams.input
     c.args.streams.now.certificate c.check.new.streams.certificate c.args.streams.now.out c.check.new.streams.out c.args.streams.now.wire
     c.check.new.streams.wire
-    c.args.folder.now c.args.folder.now (not_saved _ _ asks (λ name query e. absurd (cc))) ended refl
+    c.args.folder.now c.args.folder.now (not_saved _ _ asks (λ name query e. absurd (cc)))
+    (not_watched _ _ asks (λ query e. absurd (cc))) ended refl
 
 pub returns-in-Ok-CheckStream-clause-ended : goal.returns-in-Ok-CheckStream-clause-ended
 returns-in-Ok-CheckStream-clause-ended g c =
@@ -73,17 +77,35 @@ returns-in-Ok-CheckStream-clause-ended g c =
     (wish_of (map g.W.AsStr.text c.args.words.now)) c.check_stream.result.status (line_of c.check_stream.result) c.args.streams.now.input
     c.check_stream.new.streams.input c.args.streams.now.certificate c.check_stream.new.streams.certificate c.args.streams.now.out
     c.check_stream.new.streams.out c.args.streams.now.wire c.check_stream.new.streams.wire
-    c.args.folder.now c.args.folder.now (not_saved _ _ asks (λ name query e. absurd (cc))) ended refl
+    c.args.folder.now c.args.folder.now (not_saved _ _ asks (λ name query e. absurd (cc)))
+    (not_watched _ _ asks (λ query e. absurd (cc))) ended refl
 
 pub returns-in-Ok-Watch-clause-ended : goal.returns-in-Ok-Watch-clause-ended
 returns-in-Ok-Watch-clause-ended g c =
     let asks = rw c.in-Ok-Watch.field-0-is at c.in-Ok-Watch.ensures.asks in
-    let ended =
-    EndsAsAsked-watch g.I.Source g.I.FileInput.behind g.C.Source g.C.FileInput.behind g.O.Sink g.O.PipeSink.gone
-    g.L.Wire (wish_of (map g.W.AsStr.text c.args.words.now)) (stream_of_request c.in-Ok-Watch.request) c.watch.result.status (line_of c.watch.result)
-    c.args.streams.now.input c.watch.new.input c.args.streams.now.certificate c.args.streams.now.certificate c.args.streams.now.out
-    c.args.streams.now.out c.args.streams.now.wire c.watch.new.wire asks c.watch.ensures refl refl in
-    RunEnded-asked g.I.Source g.I.FileInput.behind g.P.Folder.holds g.P.Folder.failed g.C.Source g.C.FileInput.behind g.O.Sink g.O.PipeSink.gone g.L.Wire
-    (wish_of (map g.W.AsStr.text c.args.words.now)) c.watch.result.status (line_of c.watch.result) c.args.streams.now.input c.watch.new.input
-    c.args.streams.now.certificate c.args.streams.now.certificate c.args.streams.now.out c.args.streams.now.out c.args.streams.now.wire c.watch.new.wire
-    c.args.folder.now c.args.folder.now (not_saved _ _ asks (λ name query e. absurd (cc))) ended refl
+    let query = stream_of_request c.in-Ok-Watch.request in
+    elim query.save as (λ (s : Option SavingPlan). query.save ≡ s → RunEnded g.I.Source g.I.FileInput.behind g.C.Source g.C.FileInput.behind g.O.Sink
+    g.O.PipeSink.gone g.L.Wire g.P.Folder.holds g.P.Folder.failed (wish_of (map g.W.AsStr.text c.args.words.now)) c.answer_stream.result.status
+    (line_of c.answer_stream.result) c.args.streams.now.input c.answer_stream.new.streams.input c.args.streams.now.certificate
+    c.answer_stream.new.streams.certificate c.args.streams.now.out c.answer_stream.new.streams.out c.args.streams.now.wire
+    c.answer_stream.new.streams.wire c.args.folder.now c.answer_stream.new.folder) [
+      | None ↦ λ unsaved.
+          let (told, stays) = c.answer_stream.ensures.told unsaved in
+          RunEnded-asked g.I.Source g.I.FileInput.behind g.P.Folder.holds g.P.Folder.failed g.C.Source g.C.FileInput.behind g.O.Sink g.O.PipeSink.gone
+          g.L.Wire (wish_of (map g.W.AsStr.text c.args.words.now)) c.answer_stream.result.status (line_of c.answer_stream.result)
+          c.args.streams.now.input c.answer_stream.new.streams.input c.args.streams.now.certificate c.answer_stream.new.streams.certificate
+          c.args.streams.now.out c.answer_stream.new.streams.out c.args.streams.now.wire c.answer_stream.new.streams.wire c.args.folder.now
+          c.answer_stream.new.folder (not_saved _ _ asks (λ name query e. absurd (cc)))
+          (λ asked plan e saves. absurd (unsaved-alone query asked plan unsaved (Watches-one query asked (sym asks ∙ e)) saves))
+          (EndsAsAsked-watch g.I.Source g.I.FileInput.behind g.C.Source g.C.FileInput.behind g.O.Sink g.O.PipeSink.gone g.L.Wire
+          (wish_of (map g.W.AsStr.text c.args.words.now)) query c.answer_stream.result.status (line_of c.answer_stream.result)
+          c.args.streams.now.input c.answer_stream.new.streams.input c.args.streams.now.certificate c.answer_stream.new.streams.certificate
+          c.args.streams.now.out c.answer_stream.new.streams.out c.args.streams.now.wire c.answer_stream.new.streams.wire asks told
+          c.answer_stream.ensures.certificate c.answer_stream.ensures.out) stays
+      | Some plan ↦ λ saves.
+          RunEnded-watch g.I.Source g.I.FileInput.behind g.P.Folder.holds g.P.Folder.failed g.C.Source g.C.FileInput.behind g.O.Sink g.O.PipeSink.gone
+          g.L.Wire (wish_of (map g.W.AsStr.text c.args.words.now)) query plan c.answer_stream.result.status (line_of c.answer_stream.result)
+          c.args.streams.now.input c.answer_stream.new.streams.input c.args.streams.now.certificate c.answer_stream.new.streams.certificate
+          c.args.streams.now.out c.answer_stream.new.streams.out c.args.streams.now.wire c.answer_stream.new.streams.wire c.args.folder.now
+          c.answer_stream.new.folder asks saves (c.answer_stream.ensures.saved plan saves) c.answer_stream.ensures.certificate c.answer_stream.ensures.out
+    ] refl

@@ -1,10 +1,10 @@
 -- The lines are those of the task that was asked for.
 use Rattle.std.proofs.Common.{subst, sym}
 use Rattle.kc_graph.proofs.Law.{certified-core_numbers}
+use Rattle.kc_wishes.specs.declared.request.Task.{Task}
 use Rattle.kc_cores.specs.Answers.{AreLinesFor}
 use Rattle.kc_cores.specs.Listings.{listing_lines}
 use Rattle.kc_cores.specs.declared.listing.Listing.TheVariants as listing
-use Rattle.kc_cores.specs.declared.request.Task.{Task}
 use Rattle.kc_cores.proofs.Listed.{lines-edges, lines-members, lines-order, lines-sizes}
 use Rattle.kc_cores.proofs.listing.listing_of.Goals as goal
 

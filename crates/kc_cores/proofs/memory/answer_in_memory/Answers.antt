@@ -3,12 +3,12 @@ use Rattle.std.proofs.Common.{◌≡◌, ◌++◌, ◌∙◌, List, [], ℕ, Opt
 use Rattle.kc_head.specs.declared.foreign.Foreign.{Foreign}
 use Rattle.kc_text.specs.Meaning.{Refuses}
 use Rattle.kc_text.specs.declared.kind.Kind.{Kind}
+use Rattle.kc_wishes.specs.Wishes.{Asks, Query, Wish, wish_of}
 use Rattle.kc_cores.specs.Answers.{IsForeignBy, IsRefusedBy, IsTextFor, graph_meaning, graph_remark}
 use Rattle.kc_cores.specs.CoresEnded.{IsLineAt, TookAt, given_bytes}
 use Rattle.kc_cores.specs.Inputs.{bytes_behind, known_bytes}
 use Rattle.kc_files.specs.Folders.{FolderState, held_in}
 use Rattle.kc_cores.specs.Saved.{SavedAt}
-use Rattle.kc_cores.specs.Wishes.{Asks, Query, Wish, wish_of}
 use Rattle.kc_cores.specs.declared.CoresStatus.{CoresStatus}
 use Rattle.kc_cores.specs.declared.CoresStatus.TheVariants as status
 use Rattle.kc_cores.proofs.Ended.{asked-same}
@@ -47,14 +47,14 @@ refused-in end wish query bytes a b line known is asks here took says =
 
 pub returns-clause-done : goal.returns-clause-done
 returns-clause-done g c = λ query bytes asks here end.
-    let run = c.answer.ensures.1.asked (λ name q e. absurd (cc)) in
+    let run = c.answer.ensures.1.asked (λ name q e. absurd (cc)) (λ q plan e saves. absurd (cc)) in
     let ended = run.0.other (λ name at e. absurd (cc)) (λ name at e. absurd (cc)) (λ options e. absurd (cc)) in
     done-in c.answer.result (wish_of (map g.W.AsStr.text c.args.words.now)) query bytes c.args.streams.now.out.sink.taken
     c.answer.new.streams.out.sink.taken (λ w. given_bytes (λ i. Some i.source.left) bytes_behind w c.args.streams.now.input) end asks here ended.0.took
 
 pub returns-clause-refused : goal.returns-clause-refused
 returns-clause-refused g c = λ query bytes asks here end.
-    let run = c.answer.ensures.1.asked (λ name q e. absurd (cc)) in
+    let run = c.answer.ensures.1.asked (λ name q e. absurd (cc)) (λ q plan e saves. absurd (cc)) in
     let ended = run.0.other (λ name at e. absurd (cc)) (λ name at e. absurd (cc)) (λ options e. absurd (cc)) in
     refused-in c.answer.result (wish_of (map g.W.AsStr.text c.args.words.now)) query bytes c.args.streams.now.out.sink.taken
     c.answer.new.streams.out.sink.taken c.answer.ensures.0 (λ w. given_bytes (λ i. Some i.source.left) bytes_behind w c.args.streams.now.input) end asks here

@@ -1,6 +1,6 @@
 -- What the reader tells of all bytes in a dialect is what is told of the text of a graph in it.
 use Rattle.std.proofs.Common.{Some, arith, option_map, refl}
-use Rattle.kc_cores.specs.Wishes.{GraphText}
+use Rattle.kc_wishes.specs.Wishes.{GraphText}
 use Rattle.kc_cores.proofs.Looked.{AreReadFrom-in, graph_refused-in}
 use Rattle.kc_cores.proofs.Stopping.{HasNoGraph-refused}
 use Rattle.kc_cores.proofs.reading.dialect_edges.Goals as goal

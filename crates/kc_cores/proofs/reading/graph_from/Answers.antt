@@ -1,6 +1,7 @@
 -- The input was looked at, and the graph is that of what was read then.
 use Rattle.std.proofs.Common.{ℕ, List, IfErr, subst, sym}
-use Rattle.kc_cores.specs.Endings.{HasNoGraph, text_of}
+use Rattle.kc_wishes.specs.Requests.{text_of}
+use Rattle.kc_cores.specs.Endings.{HasNoGraph}
 use Rattle.kc_cores.specs.Inputs.{IsLookedAt}
 use Rattle.kc_cores.proofs.reading.graph_from.Goals as goal
 

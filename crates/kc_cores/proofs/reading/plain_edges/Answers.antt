@@ -1,7 +1,7 @@
 -- What the reader tells of all bytes within the limits of a graph is what is told of the text of a graph.
 use Rattle.std.proofs.Common.{None, arith, option_map, refl}
 use Rattle.kc_dialect_read.specs.declared.fault.PlacedRefusal.{PlacedRefusal}
-use Rattle.kc_cores.specs.Wishes.{GraphText}
+use Rattle.kc_wishes.specs.Wishes.{GraphText}
 use Rattle.kc_cores.proofs.Looked.{AreReadFrom-plain, graph_refused}
 use Rattle.kc_cores.proofs.Stopping.{HasNoGraph-refused}
 use Rattle.kc_cores.proofs.reading.plain_edges.Goals as goal

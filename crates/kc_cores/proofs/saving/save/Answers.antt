@@ -1,5 +1,6 @@
 -- There is no graph, or the file has the lines, or it was not written.
-use Rattle.kc_cores.specs.Endings.{line_of, query_of}
+use Rattle.kc_wishes.specs.Requests.{query_of}
+use Rattle.kc_cores.specs.Endings.{line_of}
 use Rattle.kc_cores.proofs.Replaced.{SaveEnded-no_graph}
 use Rattle.kc_cores.proofs.saving.save.Goals as goal
 

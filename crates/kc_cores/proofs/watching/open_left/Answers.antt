@@ -1,7 +1,8 @@
 -- The watcher was fed the text, or there is a cause why not.
 use Rattle.std.proofs.Common.{◌≡◌, refl, subst, sym}
 use Rattle.std.proofs.KnownBytes.{Consumes-whole}
-use Rattle.kc_dialogue.specs.Openings.{HasOpened, with_end}
+use Rattle.kc_io.specs.LineEnds.{with_end}
+use Rattle.kc_dialogue.specs.Openings.{HasOpened}
 use Rattle.kc_watch.specs.Text.{reply, reply_at_end}
 use Rattle.kc_watch.specs.Watching.{WasFed}
 use Rattle.kc_watch.specs.declared.options.WatchOptions.{WatchOptions}

@@ -1,8 +1,10 @@
 -- The stream was answered behind what stands in front of it, or there is no such text.
 use Rattle.std.proofs.Common.{◌≡◌, ◌∙◌, List, Option, ℕ, inl, subst}
 use Rattle.kc_watch.specs.declared.options.WatchOptions.{WatchOptions}
-use Rattle.kc_cores.specs.Endings.{line_of, start_of}
-use Rattle.kc_cores.specs.WatchEnded.{StreamAnswered, file_of}
+use Rattle.kc_wishes.specs.Requests.{start_of}
+use Rattle.kc_wishes.specs.Wishes.{file_of}
+use Rattle.kc_cores.specs.Endings.{line_of}
+use Rattle.kc_cores.specs.WatchEnded.{StreamAnswered}
 use Rattle.kc_cores.proofs.watching.watch.Goals as goal
 
 pub answer_behind-requires : goal.answer_behind-requires

@@ -5,8 +5,8 @@ use Rattle.std.specs.Prelude.{All}
 use Rattle.kc_graph.specs.SimpleGraph.{SimpleGraph}
 use Rattle.kc_state.proofs.reading.look.Goals as goal
 
-pub returns : goal.returns
-returns c = record {
+pub returns-clause-kept : goal.returns-clause-kept
+returns-clause-kept c = record {
   few_batches = c.counts_fit.ensures.batches;
   few_vertices = subst (λ (n : ℕ). n < 2 ^ 32) (c.vertices.ensures ∙ ap (λ (g : SimpleGraph). g.size) c.graph.ensures.graph)
       c.counts_fit.ensures.vertices;
