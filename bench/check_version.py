@@ -3,7 +3,7 @@
 
     python3 bench/check_version.py
 
-The proved sources can't take it from a file, so it is written out in each place. `cores --version` has it from kc_cores, pip and the wheel
+The proved sources can't take it from a file, so it is written out in each place. `cores --version` has it from kc_wishes, pip and the wheel
 from the Python package. CHANGELOG.md has it in the heading of its first section that has a number. A place that has another version, or
 that is not found, is printed, and the status is 1 then. Else the version is printed.
 """
@@ -20,7 +20,7 @@ PLACES = [
     ("c/calls.c", "its test's number", r"kcore_version\(\) == KCORE_VERSION && KCORE_VERSION == ([0-9]+)\)"),
     ("include/kcore.h", "KCORE_VERSION", r"^#define KCORE_VERSION (0x[0-9a-f]+)u$"),
     ("include/kcore.h", "its comment", r"^/\* The version that this header is for, ([0-9.]+):"),
-    ("crates/kc_cores/src/words.rt", "what cores --version writes", r'^pub const VERSION: &str = "([0-9.]+)";'),
+    ("crates/kc_wishes/src/words.rt", "what cores --version writes", r'^pub const VERSION: &str = "([0-9.]+)";'),
     ("python/kcore/_library.py", "kcore.__version__", r'^__version__ = "([0-9.]+)"$'),
     ("CITATION.cff", "version", r"^version: ([0-9.]+)$"),
     ("CHANGELOG.md", "the first section with a number", r"^## ([0-9.]+)$"),

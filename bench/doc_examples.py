@@ -22,7 +22,7 @@ CRATE = "doc_examples"
 LIBRARIES = (
     "kc_io kc_lines kc_files kc_wire kc_dialogue kc_lists kc_graph kc_flat kc_cert kc_tally kc_shard kc_hindex kc_text kc_dialect kc_names kc_head kc_read"
     " kc_words kc_table kc_order kc_topo kc_view kc_journal kc_batch_effects kc_shared kc_workers kc_batch kc_run kc_snapshot kc_published kc_keeper"
-    " kc_keeper_workers kc_changes kc_stream kc_answers kc_watch kc_top kc_claims kc_cores"
+    " kc_keeper_workers kc_changes kc_stream kc_answers kc_watch kc_top kc_claims kc_wishes kc_cores"
 )
 IMPORTS = ["std::alloc::Global", "std::process::Abort", "std::sync::Wait", "std::test::Fail", "std::thread::Threads"]
 BOUNDS = "R: Abort + AllocGlobal + Threads + Wait + Sync"

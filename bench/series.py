@@ -6,12 +6,15 @@
 GRAPH are edge lists without batches, named after their files; DIR of --peers holds `gen`, `peer_plain`, `peer_order` and `peer_igraph`.
 All times are processor time but where the clock is told, medians of --rounds runs (5) in turns: so other work on the machine falls on all
 alike. Where it is allowed the runs have a real-time priority. The outputs have to be the same, or the script ends with status 1. With
---only NAME,NAME.. it makes these tables alone: rest, updates, large, workers, check, tables, watch.
+--only NAME,NAME.. it makes these tables alone: rest, updates, large, workers, check, tables, watch, ones.
 """
 import argparse
+import hashlib
 import json
+import multiprocessing
 import os
 import pathlib
+import random
 import statistics
 import subprocess
 import sys
@@ -46,6 +49,20 @@ def run(command, path):
         return used.ru_utime + used.ru_stime, clock, used.ru_maxrss / 1000, out.read(), (err.read().splitlines() or [b""])[-1]
 
 
+def write_small_batches(graph, count, path):
+    """Batches of one update behind a graph: a random edge goes, and one comes between an end of each of two random edges."""
+    edges = [line.split()[:2] for line in graph.open() if line[:1] not in "#%\n"]
+    chance = random.Random(1)
+    with path.open("w") as file:
+        file.writelines(f"{u} {v}\n" for u, v in edges)
+        for _ in range(count // 2):
+            at = chance.randrange(len(edges))
+            comes = [chance.choice(edges)[0], chance.choice(edges)[1]]
+            comes = edges[at] if comes[0] == comes[1] else comes
+            file.write(f"batch\n- {' '.join(edges[at])}\nbatch\n+ {' '.join(comes)}\n")
+            edges[at] = comes
+
+
 class Series:
     """Programs, and how often each runs."""
 
@@ -53,9 +70,14 @@ class Series:
         self.kcore, self.cores, self.peers, self.rounds = chosen.kcore, chosen.cores, pathlib.Path(chosen.peers), chosen.rounds
         self.folder = pathlib.Path(tempfile.mkdtemp())
 
+    def measured(self, command, path):
+        """Seconds of processor and clock, peak megabytes, and a digest: a text that is kept here would count in the peak of the next run."""
+        *figures, written, _ = run(command, path)
+        return (*figures, hashlib.sha256(written).digest())
+
     def turns(self, commands, path, same=True):
         """For each command the medians of processor, clock and peak memory, and the median over the rounds of processor time beside the first."""
-        rows = [[run(command, path) for command in commands] for _ in range(self.rounds)]
+        rows = [[self.measured(command, path) for command in commands] for _ in range(self.rounds)]
         if same and len({ended[3] for row in rows for ended in row}) > 1:
             sys.exit(f"outputs differ: {commands} < {path}")
         told = []
@@ -70,6 +92,14 @@ class Series:
         with path.open("wb") as file:
             words = [self.peers / "gen", "file", graph, "--", "random", str(batches), str(updates), "1"]
             subprocess.run(words, stdout=file, stderr=subprocess.DEVNULL, check=True)
+        return path
+
+    def small_batches(self, graph, count):
+        """The graph with batches of one update, in a file. A process of its own writes it: else a run's peak would be no less than what that takes."""
+        path = self.folder / f"{graph.stem}-{count}-ones.txt"
+        writer = multiprocessing.Process(target=write_small_batches, args=(graph, count, path))
+        writer.start()
+        writer.join()
         return path
 
     def anew(self, peer, path):
@@ -175,6 +205,17 @@ def watched(series, graphs):
         print(f"| {graph.stem} | {watch[3]:.2f} | {whole[3]:.2f} |", flush=True)
 
 
+def small_batches(series, graphs):
+    """A stream of batches of one update: what a batch takes, and whether the memory grows with them."""
+    counts = (10_000, 100_000, 1_000_000)
+    print("| Graph | A batch, microseconds | " + " | ".join(f"{count:,} batches, s and MB" for count in counts) + " |")
+    print("|---|---|" + "---|" * len(counts))
+    for graph in graphs:
+        told = [series.turns([[series.cores, "watch"]], series.small_batches(graph, count))[0] for count in counts]
+        batch = (told[-1][0] - told[0][0]) / (counts[-1] - counts[0]) * 1e6
+        print(f"| {graph.stem} | {batch:.1f} | " + " | ".join(f"{each[0]:.2f}, {each[2]:.1f}" for each in told) + " |", flush=True)
+
+
 def main():
     words = argparse.ArgumentParser(description=__doc__, formatter_class=argparse.RawDescriptionHelpFormatter)
     words.add_argument("--kcore", required=True)
@@ -197,6 +238,7 @@ def main():
         "check": ("A certificate that is checked, beside `cores numbers`", checks, mixed),
         "tables": ("Tables beside plain edge lists", tables, mixed),
         "watch": ("A stream that is answered", watched, real),
+        "ones": ("A stream of batches of one update", small_batches, real),
     }
     for name, (title, make, these) in parts.items():
         if not chosen.only or name in chosen.only:

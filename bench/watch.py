@@ -11,11 +11,13 @@ then the program has to end by itself, with status 3 and the line that tells the
 as half of them have it, it has to drop the batch of such a line and go on, and to tell at its end how many it dropped. Each stream also ends
 without a last newline. Among the changes stand questions, of known ids and others. Half of them are watched with `--show changes`, most with
 `--enter K`, and a third with `--format json`: there the model writes each line in words as an object. In a third of them the front of the
-stream, cut anywhere, is a file that `--from` names. At the end it tries files that can't stand in front, a reader that goes away
+stream, cut anywhere, is a file that `--from` names; others go on from a state by `--load`. A third is saved by `--save`, half of these with
+`--every`: then the file has to have a state of the stream, the last one or one that is not too old. At the end it tries files that can't stand in front, a reader that goes away
 (`| head -1`), a folder as standard input, and /dev/full.
 """
 import argparse
 import collections
+import itertools
 import json
 import os
 import pathlib
@@ -28,10 +30,11 @@ import time
 
 import differ
 import fuzz
+import state_files
 
 HERE = pathlib.Path(__file__).resolve().parent
-# The file in front of a stream, in the folder where the program runs.
-START = "start.txt"
+# The file in front of a stream, and those of its states, in the folder where the program runs.
+START, STATE, SAVED = "start.txt", "state.txt", "saved.txt"
 SENTENCES = {
     1: "a field is not a whole number; write ids of decimal digits, or begin the line with # if it is a comment",
     2: "a number is missing; write two ids with a blank or a tab between them, or in a question ? ID, ? core K or ? order A B",
@@ -82,14 +85,19 @@ def object_of(line):
 
 class Options:
     """What is asked for behind the line of a batch, whether a refused line drops its batch, whether lines are objects, and the text of the file in
-    front of the stream, if there is one."""
+    front of the stream, if there is one. Where that is the start text of a state, `state` is the text of the state. The stream is saved where
+    `saves` holds, and behind each `every` batches."""
 
     def __init__(self, changes=False, enter=None, drops=False, objects=False, start=None):
         self.changes, self.enter, self.drops, self.objects, self.start = changes, enter, drops, objects, start
+        self.state, self.saves, self.every = None, False, None
 
     def words(self):
         words = ["--show", "changes"] * self.changes + (["--enter", str(self.enter)] if self.enter is not None else [])
         words += ["--bad-lines", "batch"] * self.drops + ["--format", "json"] * self.objects
+        words += ["--save", SAVED] * self.saves + ["--every", str(self.every)] * (self.every is not None)
+        if self.state is not None:
+            return words + ["--load", STATE]
         return words + ["--from", START] * (self.start is not None)
 
     def text_of(self, line):
@@ -113,6 +121,8 @@ class Model:
         self.options, self.cores = options, {}
         self.known, self.dropped, self.refused_batches = set(), None, 0
         self.reader, self.edges, self.text, self.begun, self.lines, self.refusal = fuzz.Reader(), set(), b"", b"", 0, None
+        # the ids in the order of their coming, how many batches have ended, and the ids and edges behind each of them
+        self.order, self.ended, self.states = [], -1, {}
         self.front, self.file = 0, f"{START}: "
         if options.start:
             self.feed(options.start + b"\n" * (not options.start.endswith(b"\n")))
@@ -142,6 +152,7 @@ class Model:
                 self.answer(fields[1:])
             else:
                 self.reader.take(line)
+                self.order += [id for id in dict.fromkeys(int(field) for field in fields[-2:] if field.isdigit()) if id in self.reader.ids - set(self.order)]
         except fuzz.Refused as refusal:
             self.refuse(refusal.kind)
             return
@@ -157,6 +168,7 @@ class Model:
             self.dropped = f"line {self.lines} kind {kind} {fuzz.NAMES[kind]}"
             self.refused_batches += 1
             self.reader.ids, self.reader.batches[-1] = set(self.known), []
+            self.order = [id for id in self.order if id in self.known]
 
     def message(self):
         """What the program tells of its run."""
@@ -217,6 +229,7 @@ class Model:
         else:
             lines = [self.end_batch(number, self.reader.batches[number - 1])] + self.options.lines(before, self.cores)
         self.text += b"".join(map(self.options.text_of, lines))
+        self.ended, self.states[number] = number, (list(self.order), set(self.edges))
 
     def count_cores(self):
         self.cores = {id: 0 for id in self.reader.ids} | differ.core_numbers(sorted(self.reader.ids), self.edges)
@@ -271,6 +284,34 @@ def random_stream(rng, broken):
         lines.insert(rng.randrange(len(lines) + 1), rng.choice(WRONG + WRONG_QUESTIONS))
     data = b"".join(line + rng.choice((b"\n", b"\n", b"\n", b"\r\n")) for line in lines)
     return data.rstrip(b"\n") if rng.random() < 0.4 else data
+
+
+def peeled(ids, edges):
+    """The ids in an order that certifies their core numbers: one of the fewest neighbours left goes next."""
+    beside = {id: set() for id in ids}
+    for a, b in edges:
+        beside[a].add(b)
+        beside[b].add(a)
+    order = []
+    while beside:
+        least = min(beside, key=lambda id: len(beside[id]))
+        for other in beside.pop(least):
+            beside[other].discard(least)
+        order.append(least)
+    return order
+
+
+def random_state(rng):
+    """A start text and the text of its state."""
+    ids = rng.sample(range(12), rng.randrange(9))
+    edges = [pair for pair in itertools.combinations(range(len(ids)), 2) if rng.random() < 0.5]
+    named = [(ids[a], ids[b]) for a, b in edges]
+    order = peeled(ids, named)
+    cores = {id: 0 for id in ids} | differ.core_numbers(sorted(ids), {tuple(sorted(pair)) for pair in named})
+    lines = [f"kcore-state 1\nbatches {rng.randrange(9)}\nvertices {len(ids)}\nedges {len(edges)}\n"]
+    lines += [f"{id} {cores[id]} {order.index(id)}\n" for id in ids] + [f"{a} {b}\n" for a, b in named]
+    start = "".join([f"{id} {id}\n" for id in ids] + [f"{a} {b}\n" for a, b in named])
+    return start.encode(), state_files.with_sum("".join(lines).encode())
 
 
 def pieces_of(rng, data):
@@ -338,13 +379,39 @@ class Talk:
             stream.close()
 
 
+def check_saved(folder, options, model, ended, is_whole):
+    """Whether the file has the last state of a stream that has ended, or one behind not much less than the batches that had ended when more was asked
+    for last."""
+    file = folder / SAVED
+    if not options.saves or not file.exists():
+        if options.saves and (is_whole or (options.every is not None and ended >= options.every)):
+            raise Wrong("no state was saved")
+        return
+    try:
+        state = state_files.State(file.read_bytes())
+    except ValueError as error:
+        raise Wrong(f"{error}: {file.read_bytes()!r}") from error
+    edges = {tuple(sorted(pair)) for pair in state.edges}
+    if (state.ids, edges) != model.states.get(state.batches):
+        raise Wrong(f"saved {file.read_bytes()!r} in place of {model.states.get(state.batches)!r}")
+    cores = {id: 0 for id in state.ids} | differ.core_numbers(sorted(state.ids), edges)
+    if state.cores != cores:
+        raise Wrong(f"saved core numbers {state.cores!r} in place of {cores!r}")
+    if state.batches != model.ended if is_whole else options.every is None or ended - state.batches >= options.every:
+        raise Wrong(f"the state of batch {state.batches} was saved, behind {model.ended} batches")
+
+
 def converse(program, options, pieces, seconds, folder):
     """Sends the pieces one by one, each after the answer to those before; the first after what the file in front of them is answered."""
-    if options.start is not None:
+    (folder / SAVED).unlink(missing_ok=True)
+    if options.state is not None:
+        (folder / STATE).write_bytes(options.state)
+    elif options.start is not None:
         (folder / START).write_bytes(options.start)
     model, talk = Model(options), Talk(program, seconds, options.words(), folder)
     try:
         for piece in (b"", *pieces):
+            ended = model.ended
             if piece:
                 talk.send(piece)
                 model.feed(piece)
@@ -352,6 +419,7 @@ def converse(program, options, pieces, seconds, folder):
             if model.refusal:
                 talk.finish(3, model.message())
                 talk.expect(model.text)
+                check_saved(folder, options, model, ended, False)
                 return
         talk.process.stdin.close()
         model.end()
@@ -359,6 +427,7 @@ def converse(program, options, pieces, seconds, folder):
         talk.finish(3 if model.refusal else 0, model.message())
         talk.read_up_to(len(model.text) + 1)
         talk.expect(model.text)
+        check_saved(folder, options, model, ended, not model.refusal)
     finally:
         talk.close()
 
@@ -387,6 +456,7 @@ def try_starts(program):
     check("a file that is missing", missing, (4, b"cores: no such file: No such file or directory\n"))
     check("a folder in front", run_with(program, b"1 2\n", words=["--from", str(HERE)]), (4, f"cores: {HERE}: Is a directory\n".encode()))
     check("standard input in front of itself", run_with(program, b"1 2\n", words=["--from", "-"])[0], 2)
+    check("an edge list as a state", run_with(program, b"1 2\n", words=["--load", str(HERE / "watch.py")])[0], 3)
 
 
 def try_reader_gone(program, seconds):
@@ -434,6 +504,10 @@ def cases_of(seed, count):
         if rng.random() < 0.3:
             at = rng.randrange(len(data) + 1)
             options.start, data = data[:at], data[at:]
+        elif rng.random() < 0.3:
+            options.start, options.state = random_state(rng)
+        options.saves = rng.random() < 0.3
+        options.every = rng.choice((None, 1, 2, 3)) if options.saves else None
         yield options, pieces_of(rng, data)
 
 
@@ -455,7 +529,7 @@ def try_all(given, program, folder):
         try:
             converse(program, options, pieces, given.seconds, folder)
         except Wrong as wrong:
-            print(f"case {number}: {wrong}\nwords: {options.words()}\nfile in front: {options.start!r}\npieces: {pieces!r}")
+            print(f"case {number}: {wrong}\nwords: {options.words()}\nfile in front: {options.start!r} {options.state!r}\npieces: {pieces!r}")
             return 1
         answers += len(pieces)
     try:

@@ -2,6 +2,7 @@
 
 The edges are a text file of lines `u v`. The pieces are ranges of the lesser end. Each is counted by a certificate of its own, as an engine
 would do on many machines (in Spark by `mapPartitions`, in Dask or Ray by a task), and the certificates are merged.
+In a checkout `dist/library.sh` comes first; where kcore is installed PYTHONPATH is left out.
 """
 
 import sys

@@ -3,7 +3,8 @@
 Each line of the file is `u v time`, as SNAP has its temporal graphs. FOLDER gets report.html, and where matplotlib is installed sizes.svg,
 degrees.svg, onion.svg and rings.svg of the graph after the last batch, and changes.svg of all batches. EVERY is the length of an interval of
 time, WINDOW how long an edge stays after its last mention; by default there are twelve intervals, and edges stay for good. With --unix times
-and lengths are seconds, and times are told as dates of UTC. It needs NumPy.
+and lengths are seconds, and times are told as dates of UTC. It needs NumPy, and in a checkout `dist/library.sh` first; where kcore is installed
+PYTHONPATH is left out.
 """
 
 import argparse

@@ -10,7 +10,7 @@ from typing import Any, Iterable, List, Optional, Sequence, Tuple
 
 from . import __version__, _text, batches, report
 
-_DONE, _REFUSED, _NOT_READ, _NOT_WRITTEN = 0, 3, 4, 5
+_DONE, _NO_NUMPY, _REFUSED, _NOT_READ, _NOT_WRITTEN = 0, 1, 3, 4, 5
 
 #: How many intervals there are where their length is not asked for.
 _INTERVALS = 50
@@ -18,8 +18,8 @@ _INTERVALS = 50
 #: How many intervals there may be: the page has a place on its slider for each.
 _MOST_INTERVALS = 5_000
 
-_STATUSES = """Exit status: 0 where the page is written, 2 where the words are not right, 3 where a line is refused, 4 where the file can't be
-read, and 5 where the page can't be written."""
+_STATUSES = """Exit status: 0 where the page is written, 1 where NumPy is not installed, 2 where the words are not right, 3 where a line is
+refused, 4 where the file can't be read, and 5 where the page can't be written."""
 
 _FILE = """Each line of FILE has two whole numbers, the ends of an edge; with --time also a number, the time of the edge. Blank lines, and
 lines that begin with # or %, are passed over. Loops are dropped, and an edge that comes again counts once. The name - is standard input."""
@@ -39,6 +39,8 @@ def main(words: Optional[Sequence[str]] = None) -> int:
         return _told(f"{name}: {fault.strerror or fault}", _NOT_READ)
     except ValueError as fault:
         return _told(str(fault), _REFUSED)
+    except ImportError as fault:
+        return _told(str(fault), _NO_NUMPY)
     try:
         _write(asked.output, page)
     except OSError as fault:

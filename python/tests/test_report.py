@@ -255,6 +255,12 @@ class Command(unittest.TestCase):
             self.assertEqual(command.main(["report", str(TOP / "graphs" / "karate.txt"), "-o", str(self.folder / "none" / "page")]), 5)
         self.assertEqual(told.getvalue().count("No such file or directory"), 2)
 
+    def test_without_numpy(self):
+        with mock.patch.dict(sys.modules, {"numpy": None}):
+            status, told, page = self.run_with("0 1\n")
+        self.assertEqual((status, page), (1, None))
+        self.assertRegex(told, r"^kcore: a report needs NumPy .*\n$")
+
     def test_as_a_program(self):
         environment = {**os.environ, "PYTHONPATH": str(TOP / "python")}
         words = [sys.executable, "-m", "kcore", "report", "-", "-o", "-"]
