@@ -221,8 +221,8 @@ no_changes() {
     begin 'changes that do not count' $changed
     try "$clone/$name" $trial
     path=$room/tools:$room/kit
-    (cd "$clone" && echo > README.md && echo >> crates/$name/stdin && rm -r crates/kc_graph/must-fail && mkdir crates/kc_io/out &&
-        touch crates/kc_graph/src/lib.rt && echo '# a comment' >> crates.txt)
+    want 'the changes themselves' within . "echo > README.md && echo >> crates/$name/stdin && rm -r crates/kc_graph/planted && rm -rf crates/kc_io/must-fail &&
+        mkdir crates/kc_io/out && touch crates/kc_graph/src/lib.rt && echo '# a comment' >> crates.txt"
     try "$clone/$name" $trial
     want 'the numbers' has_numbers
     want 'no sentence' is_quiet

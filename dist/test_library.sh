@@ -104,7 +104,7 @@ changes() {
     done
     begin_anew 'changes that do not count'
     echo >> "$clone/crates/kc_text/src/lib.rt"
-    (cd "$clone" && rm -r crates/kc_graph/must-fail && mkdir crates/kc_graph/out && echo '# a comment' >> crates.txt)
+    want 'the changes themselves' within . "rm -r crates/kc_graph/planted && mkdir crates/kc_graph/out && echo '# a comment' >> crates.txt"
     try sh "$clone/dist/library.sh"
     want 'the folder' has_told "$clone/build"
     end
