@@ -411,7 +411,7 @@ def converse(program, options, pieces, seconds, folder):
     model, talk = Model(options), Talk(program, seconds, options.words(), folder)
     try:
         for piece in (b"", *pieces):
-            ended = model.ended
+            ended = model.ended if piece else -1  # how many batches had ended when more of the stream was asked for last; none, before it is read
             if piece:
                 talk.send(piece)
                 model.feed(piece)
