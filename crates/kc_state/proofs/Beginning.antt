@@ -1,17 +1,16 @@
 -- A stream that begins with the start text of a state has its ids and its graph.
-use Rattle.std.proofs.Common.{◌≡◌, ◌<◌, ◌≤◌, ◌^◌, ◌++◌, ◌∙◌, ℕ, suc, true, false, Bool, cond, List, [], ◌∷◌, Option, None, Some, length, map, get_or}
+use Rattle.std.proofs.Common.{◌≡◌, ◌<◌, ◌≤◌, ◌^◌, ◌++◌, ◌∙◌, ℕ, suc, true, false, Bool, cond, List, [], ◌∷◌, Option, None, Some, length, map}
 use Rattle.std.proofs.Common.{ap, ap₂, append-nil, append_assoc, arith, codes, inl, inr, length-append, nat_eq, nat_lt, refl, subst, sym, zero}
 use Rattle.std.specs.FinSet as set
 use Rattle.std.specs.List.{cons_option, filter_map, flat_map}
 use Rattle.std.specs.Prelude.{All, bytes_eq, is_some}
 use Rattle.std.specs.Set.{is_member}
-use Rattle.std.proofs.lemmas.Bool.{and_parts, cases_Bool, eq-eqb, eqb-true, false≢true, le-ltb, lt-ltb, ne_eqb}
+use Rattle.std.proofs.lemmas.Bool.{and_parts, cases_Bool, eqb-true, false≢true, le-ltb, lt-ltb}
 use Rattle.std.proofs.lemmas.List.Concat.{flat_map-append}
 use Rattle.std.proofs.lemmas.List.Elements.{All-cons, filter_map-append}
 use Rattle.std.proofs.lemmas.List.Folds.{flat_map-map}
-use Rattle.std.proofs.lemmas.List.Sums.{position_or_len_is}
 use Rattle.kc_lists.specs.Lists.{Distinct}
-use Rattle.kc_lists.proofs.Counting.{member-get_or, pairs_from_Distinct}
+use Rattle.kc_lists.proofs.Counting.{member-get_or}
 use Rattle.kc_lists.proofs.Members.{Distinct-cut, member-append_right, member-head}
 use Rattle.kc_graph.specs.Peeling.{at}
 use Rattle.kc_flat.specs.Listing.{edge_list}
@@ -33,7 +32,7 @@ use Rattle.kc_stream.specs.Ids.{ids_of, with_name, with_names}
 use Rattle.kc_stream.specs.declared.bad_lines.BadLines.{BadLines}
 use Rattle.kc_stream.specs.declared.stream_line.StreamLine.{StreamLine}
 use Rattle.kc_stream.specs.declared.stream_line.StreamLine.TheVariants.{Tells}
-use Rattle.kc_stream.proofs.Naming.{ids-edge, name-known, name-new, names-behind}
+use Rattle.kc_stream.proofs.Naming.{ids-edge, name-known, name-new, names-behind, place-at}
 use Rattle.kc_stream.proofs.Reading.{hear-judged, so-far}
 use Rattle.kc_state.specs.OneState.{IsKeptState}
 use Rattle.kc_state.specs.Starts.{HasBegunWith, ids_at, loop_at, start_edges, start_text}
@@ -200,13 +199,6 @@ edges-name ids (p ∷ es) within =
     ∙ edges-name ids es (λ k d l. within (suc k) d (omega (arith, l)))
 
 -- The edges. -----------------------------------------------------------------------------------------
-
--- an id stands at its place
-place-at : (ids : List ℕ) (v : ℕ) → Distinct ids → v < length ids → place ids (at ids v) ≡ v
-place-at ids v once l =
-    position_or_len_is (nat_eq (at ids v)) ids v 0 (omega (arith, l))
-    (λ k less. ne_eqb (at ids v) (get_or ids k 0) (λ e. pairs_from_Distinct ids once k v 0 less l (sym e)))
-    (λ _. eq-eqb (at ids v) (at ids v) refl)
 
 -- no edge joins a place with itself
 between-same : (u : ℕ) → between u u ≡ None

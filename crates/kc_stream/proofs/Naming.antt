@@ -1,15 +1,16 @@
 -- Ids and their numbers, with one name more and with several.
 use Rattle.std.proofs.Common.{◌≡◌, ◌≤◌, ◌<◌, ◌+◌, ℕ, suc, Bool, true, false, cond, not, ◌||◌, List, [], ◌∷◌, ◌++◌, length, map, refl, sym, ap, ap₂, ◌∙◌}
-use Rattle.std.proofs.Common.{subst, arith, nat_eq, eq-eqb, eqb-true, inl, inr, length-append, append-nil, append_assoc, Option, Some, None, min, max}
+use Rattle.std.proofs.Common.{subst, arith, nat_eq, eq-eqb, eqb-true, get_or, inl, inr, length-append, append-nil, append_assoc, Option, Some, None, min, max}
 use Rattle.kc_lists.specs.Lists.{Distinct}
-use Rattle.kc_lists.proofs.Counting.{Distinct-push}
+use Rattle.kc_lists.proofs.Counting.{Distinct-push, member-get_or, pairs_from_Distinct}
 use Rattle.kc_lists.proofs.Members.{Distinct-cut}
 use Rattle.std.specs.List.{filter_map, position_or_len, cons_option}
 use Rattle.std.specs.Set.{is_member}
-use Rattle.std.proofs.lemmas.Bool.{cases_Bool, or_cases, or_left, or_right, false≢true}
+use Rattle.std.proofs.lemmas.Bool.{cases_Bool, ne_eqb, or_cases, or_left, or_right, false≢true}
 use Rattle.std.proofs.lemmas.List.Folds.{list_any-append, position_or_len_push}
-use Rattle.std.proofs.lemmas.List.Sums.{fold-append}
+use Rattle.std.proofs.lemmas.List.Sums.{fold-append, position_or_len_is}
 use Rattle.std.proofs.lemmas.List.{map-append}
+use Rattle.kc_graph.specs.Peeling.{at}
 use Rattle.kc_text.specs.declared.change.ChangeLine.{ChangeLine}
 use Rattle.kc_text.specs.declared.line.TextLine.TheVariants as said
 use Rattle.kc_text.specs.Inputs.{AreAmong, EdgeUpdate, between, numbered, numbered_change, place}
@@ -55,6 +56,22 @@ place-last ids x m =
     position_or_len_push (nat_eq x) ids x
     ∙ ap (λ b. cond b (length ids + cond (nat_eq x x) 0 1) (place ids x)) (eq-eqb (place ids x) (length ids) (place-none ids x m))
     ∙ ap (λ b. length ids + cond b 0 1) (eq-eqb x x refl) ∙ (let e : length ids + 0 ≡ length ids = omega arith in e)
+
+-- an id stands at its place
+pub place-at : (ids : List ℕ) (v : ℕ) → Distinct ids → v < length ids → place ids (at ids v) ≡ v
+place-at ids v once l =
+    position_or_len_is (nat_eq (at ids v)) ids v 0 (omega (arith, l))
+    (λ k less. ne_eqb (at ids v) (get_or ids k 0) (λ e. pairs_from_Distinct ids once k v 0 less l (sym e)))
+    (λ _. eq-eqb (at ids v) (at ids v) refl)
+
+-- who stands at a number is an id, and has this number
+pub stands-at : (ids : List ℕ) (n id : ℕ) → Distinct ids → n < length ids → at ids n ≡ id
+    → (n < length ids) × (n ≡ place ids id) × (is_member nat_eq ids id ≡ true)
+stands-at ids n id once low is = (
+  low,
+  sym (ap (place ids) (sym is) ∙ place-at ids n once low),
+  subst (λ (x : ℕ). is_member nat_eq ids x ≡ true) is (member-get_or ids n 0 low),
+)
 
 -- a name that is an id adds none
 pub name-known : (ids : List ℕ) (n : ℕ) → is_member nat_eq ids n ≡ true → with_name ids n ≡ ids
