@@ -1,6 +1,7 @@
 pub mod Cells
 pub mod Ends
 pub mod Fed
+pub mod GapBits
 pub mod LineAppend
 pub mod PlainDialect
 pub mod Read

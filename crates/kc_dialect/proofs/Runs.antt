@@ -314,3 +314,24 @@ run-more s bytes rest n count more behind run h =
                 ∙ append-nil (bad_line (k + 1) (said_after d k line)) ∙ ap (bad_line (k + 1)) said,
           );
     }
+
+-- a run behind another one
+pub run-then : (s : Separator) (bytes rest : List ℕ) (n count m more : ℕ) → rest ≡ drop n bytes → BeginsWithRun s bytes n count → BeginsWithRun s rest m more
+    → BeginsWithRun s bytes (n + m) (count + more)
+run-then s bytes rest n count m more behind run next = record {
+  read = run.read ++ next.read;
+  cut = run.cut ∙ ap (λ (t : List (List ℕ)). run.read ++ t) (ap lines (sym behind) ∙ next.cut) ∙ sym (append_assoc run.read next.read (lines (drop m rest)))
+      ∙ ap (λ (t : List ℕ). (run.read ++ next.read) ++ lines t) (ap (drop m) behind ∙ drop-drop m n bytes);
+  within = omega (arith, ap length behind, length-drop n bytes, run.within, next.within);
+  counted = omega (arith, run.counted, next.counted, length-append run.read next.read);
+  fewer = omega (arith, run.fewer, next.fewer);
+  says = λ d before e columns ids skip.
+      let (text, good) = run.says d before e columns ids skip in
+      let k : ℕ = before + length run.read in
+      let (text', good') = next.says d k e columns ids (omega arith) in (
+        plain-append d before run.read next.read ∙ ap (λ (t : List ℕ). t ++ plain_lines d k next.read) text
+            ∙ ap (λ (t : List ℕ). map (spaced s) (take n bytes) ++ t) (text' ∙ ap (λ (t : List ℕ). map (spaced s) (take m t)) behind)
+            ∙ sym (map-append (spaced s) (take n bytes) (take m (drop n bytes))) ∙ ap (map (spaced s)) (sym (take-more n m bytes)),
+        bad-append d before run.read next.read ∙ ap (λ (t : List BadLine). t ++ bad_lines_after d k next.read) good ∙ good',
+      );
+}

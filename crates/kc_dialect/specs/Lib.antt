@@ -3,6 +3,7 @@ pub mod Columns
 pub mod Dialects
 pub mod EdgeFaults
 pub mod FirstPairs
+pub mod Gaps
 pub mod Names
 pub mod PlainRuns
 pub mod Rewritten

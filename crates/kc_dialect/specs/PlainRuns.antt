@@ -1,5 +1,5 @@
 -- The plain lines at the front of a text: two short numbers with one separator between them, and a newline behind them.
-use Rattle.std.specs.Prelude.{◌≡◌, ◌≤◌, ◌<◌, ◌+◌, ℕ, true, List, [], ◌∷◌, ◌++◌, length, map, take, drop, if◌then◌else◌}
+use Rattle.std.specs.Prelude.{◌≡◌, ◌≤◌, ◌<◌, ◌+◌, ℕ, Bool, false, true, List, [], ◌∷◌, ◌++◌, length, map, take, drop, if◌then◌else◌}
 use Rattle.std.specs.List.{list_all}
 use Rattle.kc_text.specs.Forms.{is_digit}
 use Rattle.kc_text.specs.Lines.{lines}
@@ -14,6 +14,11 @@ pub record AreFewDigits (digits : List ℕ) : Type 0 where
   pub some : 0 < length digits
   pub few : length digits ≤ 9
   pub each : list_all is_digit digits ≡ true
+
+-- the first line may be plain: it begins with a digit
+abbrev pub may_be_plain : List ℕ → Bool
+may_be_plain [] = false
+may_be_plain (b ∷ bytes) = is_digit b
 
 -- bytes begin with so many digits, and the rest follows
 pub record BeginsWithDigits (bytes : List ℕ) (n : ℕ) (rest : List ℕ) : Type 0 where

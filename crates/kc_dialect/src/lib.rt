@@ -10,8 +10,9 @@
 //! dialect reads: compressed files, UTF-16, and the matrices of MatrixMarket. [`separator_of_name`] tells the separator from a file's name,
 //! and [`edge_fault`] where a line is wrong in a list of two ids a line.
 //!
-//! Rewriting is linear, and allocates nothing for a line. Lines of two short numbers alone are found in one scan, and as many as follow one
-//! another are copied at once (`plain_runs`). The crate stands on `kc_text`, whose lines, blanks, comments and numbers it takes.
+//! Rewriting is linear, and allocates nothing for a line. Lines of two short numbers alone are found in one scan, 64 bytes at a time
+//! (`gaps`), and as many as follow one another are copied at once (`plain_runs`). The crate stands on `kc_text`, whose lines, blanks, comments
+//! and numbers it takes.
 #![tactic(auto)]
 
 mod bad_line;
@@ -21,6 +22,7 @@ mod dialect;
 mod edge_faults;
 mod fault;
 mod first_pairs;
+mod gaps;
 mod ids;
 pub mod laws;
 mod line_rewriter;

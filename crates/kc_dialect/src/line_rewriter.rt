@@ -12,7 +12,7 @@ use crate::bad_line::{BadField, BadLine};
 use crate::dialect::{BadLines, Dialect, Ids};
 use crate::fault::RewriteFault;
 use crate::pairs::{said_after, write_plain};
-use crate::plain_runs::{plain_run, write_spaced};
+use crate::plain_runs::{may_be_plain, plain_run, write_spaced};
 use crate::skipped::SkippedLines;
 use kc_text::{NoMemory, cut_line};
 use std::alloc::Global;
@@ -121,7 +121,7 @@ impl LineRewriter {
             × (read ++ lines rest.now ≡ lines bytes.now)) }
         ensures few { IfOk result (λ rest. self.new.lines + length rest.now ≤ self.old.lines + length bytes.now) }
     {
-        if !self.copies() {
+        if !self.copies() || !may_be_plain(bytes) {
             return Ok(bytes);
         }
         self.copy_run(bytes, out)

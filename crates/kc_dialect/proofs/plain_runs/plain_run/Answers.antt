@@ -1,11 +1,16 @@
--- One plain line more is behind the run.
-use Rattle.kc_dialect.proofs.Runs.{run-more, run-none}
+-- The lines of one block more are behind the run, and those of the last bytes.
+use Rattle.kc_dialect.proofs.Runs.{run-none, run-then}
 use Rattle.kc_dialect.proofs.plain_runs.plain_run.Goals as goal
 
-pub loop-more-init : goal.loop-more-init
-loop-more-init c = run-none c.args.separator c.args.bytes.now
+pub loop-len-init : goal.loop-len-init
+loop-len-init c = run-none c.args.separator c.args.bytes.now
 
-pub loop-more-preserved : goal.loop-more-preserved
-loop-more-preserved c =
-    run-more c.args.separator c.args.bytes.now c.split_at.result.1.now c.loop-more.len c.loop-more.lines c.in-Some.more c.split_at.ensures.back
-    c.loop-more.invariant c.in-Some.ensures
+pub loop-len-preserved : goal.loop-len-preserved
+loop-len-preserved c =
+    run-then c.args.separator c.args.bytes.now c.split_at.result.1.now c.loop-len.len c.loop-len.lines c.block_run-more.result.0
+    c.block_run-more.result.1 c.split_at.ensures.back c.loop-len.invariant c.block_run-more.ensures
+
+pub returns : goal.returns
+returns c =
+    run-then c.args.separator c.args.bytes.now c.split_at-2.result.1.now c.loop-len.len c.loop-len.lines c.last_run-more.result.0
+    c.last_run-more.result.1 c.split_at-2.ensures.back c.loop-len.invariant c.last_run-more.ensures
