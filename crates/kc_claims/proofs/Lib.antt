@@ -1,6 +1,7 @@
 pub mod Certified
 pub mod Joined
 pub mod Rising
+pub mod BitPlaces
 pub mod Told
 pub mod Refuting
 pub mod Seidman

@@ -10,6 +10,7 @@ pub mod Tables
 pub mod Checking
 pub mod Feeding
 pub mod Gathering
+pub mod IdBits
 pub mod Insisting
 pub mod Judging
 pub mod Places

@@ -23,6 +23,7 @@ mod edge_line;
 mod fault;
 mod feeding;
 mod gathering;
+mod id_bits;
 mod insisting;
 mod judging;
 mod looking;

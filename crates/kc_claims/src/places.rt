@@ -5,6 +5,7 @@ ghost use Rattle.kc_lists.specs.Lists.{member};
 ghost use Rattle.kc_graph.specs.Peeling.{at};
 ghost use Rattle.kc_claims.specs.Places.{ArePlaces, IsRow};
 
+use crate::id_bits::IdBits;
 use crate::taking::vertex_of;
 use kc_graph::NoMemory;
 use std::alloc::Global;
@@ -20,6 +21,8 @@ const MOST_STEPS: usize = 32;
 pub(crate) enum Places {
     /// The ids are numbers in a row, from this one on.
     Row(u32),
+    /// The ids are many of the numbers up to the greatest of them, each of which has a bit.
+    Bits(IdBits),
     /// The first place of each range of ids: those that are the same but for so many of their last bits.
     Ranges(u32, Vec<u32>),
 }
@@ -144,6 +147,9 @@ impl Places {
             Some(greatest) => *greatest,
             None => 0,
         };
+        if let Some(bits) = IdBits::new(alloc, ids, greatest)? {
+            return Ok(Places::Bits(bits));
+        }
         let bits = range_bits(greatest, ids.len());
         let firsts = first_places(alloc, ids, bits, range_of(greatest, bits).saturating_add(1))?;
         Ok(Places::Ranges(bits, firsts))
@@ -159,6 +165,7 @@ impl Places {
     {
         match self {
             Places::Row(first) => place_in_row(ids, *first, id),
+            Places::Bits(bits) => bits.place(id),
             Places::Ranges(bits, firsts) => {
                 place_from(ids, start_of(firsts, range_of(id, *bits)), id)
             }

@@ -42,6 +42,28 @@ none-fault n before e h =
     let differ : eqb e.u e.v ≡ false = ne_eqb e.u e.v (λ s. absurd (omega (arith, h.0))) in
     rw (within, differ, lt-ltb e.u e.v h.0, h.2) refl
 
+-- the last test counts only where the one before it is passed
+tested_last : (a b c d d' : Bool) → (c ≡ true → d ≡ d')
+    → cond a (cond b (Some Loop) (cond c (cond d None (Some NotAbove)) (Some GreaterFirst))) (Some NotAVertex)
+    ≡ cond a (cond b (Some Loop) (cond c (cond d' None (Some NotAbove)) (Some GreaterFirst))) (Some NotAVertex)
+tested_last a b true d d' h = ap (λ x. cond a (cond b (Some Loop) (cond x None (Some NotAbove))) (Some NotAVertex)) (h refl)
+tested_last a b false d d' h = refl
+
+-- an edge with its lesser end first is above (0, 0)
+above-origin : (e : Edge) → e.u < e.v → is_above (Some (record { u = 0; v = 0 })) e ≡ true
+above-origin e l = elim (cases_lt 0 e.u) [
+  | inl p ↦ or_left (ltb 0 e.u) (eqb 0 e.u && ltb 0 e.v) (lt-ltb 0 e.u p)
+  | inr p ↦ or_right (ltb 0 e.u) _ (and_from (eqb 0 e.u) (ltb 0 e.v) (eq-eqb 0 e.u (omega arith)) (lt-ltb 0 e.v (omega arith)))
+]
+
+-- a list that begins anywhere is a list that goes on after (0, 0)
+pub origin-first : (n : ℕ) (es : List Edge) → first_fault n 0 (Some (record { u = 0; v = 0 })) es ≡ first_fault n 0 None es
+origin-first n [] = refl
+origin-first n (e ∷ es) =
+    ap (λ f. refused_at 0 f (first_fault n 1 (Some e) es))
+    (tested_last (is_within n e) (eqb e.u e.v) (ltb e.u e.v) (is_above (Some (record { u = 0; v = 0 })) e) true
+    (λ h. above-origin e (ltb-true e.u e.v h)))
+
 -- a place that is no fault's leads on
 refused-none : (place : ℕ) (fault : Option EdgeFault) (rest : Option FirstFault) → refused_at place fault rest ≡ None → (fault ≡ None) × (rest ≡ None)
 refused-none place None rest h = (refl, h)

@@ -10,28 +10,6 @@ ghost use Rattle.kc_tally.specs.Tallies.{leads_to, later_count, supporter_count,
 use crate::fault::{FirstFault, first_fault};
 use kc_graph::Edge;
 
-/// Whether the rank of `v` is less than that of `w`, or the same and `v` itself is less.
-fn ranks_before(rank: &[u32], v: u32, w: u32) -> bool
-    requires first { v < length rank.now }
-    requires second { w < length rank.now }
-    ensures { result ≡ (nat_lt (slice_index rank.now v) (slice_index rank.now w)
-        || (slice_index rank.now v == slice_index rank.now w && nat_lt v w)) }
-{
-    let (rank_v, rank_w) = (rank[v as usize], rank[w as usize]);
-    rank_v < rank_w || (rank_v == rank_w && v < w)
-}
-
-/// Whether the key of `v` is less than that of `w`.
-fn has_lesser_key(core: &[u32], rank: &[u32], v: u32, w: u32) -> bool
-    requires ranked { length rank.now ≡ length core.now }
-    requires first { v < length core.now }
-    requires second { w < length core.now }
-    ensures { result ≡ has_lesser_key core.now rank.now v w }
-{
-    let (core_v, core_w) = (core[v as usize], core[w as usize]);
-    core_v < core_w || (core_v == core_w && ranks_before(rank, v, w))
-}
-
 /// One more is counted at `v`.
 fn count_one(counts: &mut [u32], v: u32)
     requires { v < length counts.old }
@@ -40,41 +18,22 @@ fn count_one(counts: &mut [u32], v: u32)
     counts[v as usize] = counts[v as usize].saturating_add(1);
 }
 
-/// Counts the later neighbour that one edge gives.
-fn count_later(core: &[u32], rank: &[u32], edge: Edge, later: &mut [u32])
-    requires ranked { length rank.now ≡ length core.now }
-    requires later_each { length later.old ≡ length core.now }
+/// Counts the later neighbour that an edge between two vertices with the same core number gives.
+fn count_by_rank(rank: &[u32], edge: Edge, later: &mut [u32])
+    requires later_each { length later.old ≡ length rank.now }
+    requires within { edge.v < length rank.now }
     requires lesser_first { edge.u < edge.v }
-    requires within { edge.v < length core.now }
-    ensures { (v : ℕ) → v < length core.now → slice_index later.new v
-        ≡ capped (slice_index later.old v + (if leads_to (has_lesser_key core.now rank.now v) v edge then 1 else 0)) }
+    ensures { later.new ≡ (let at = if nat_le (slice_index rank.now edge.u) (slice_index rank.now edge.v) then edge.u else edge.v in
+        slice_set later.old at (capped (slice_index later.old at + 1))) }
 {
-    if has_lesser_key(core, rank, edge.u, edge.v) {
+    if rank[edge.u as usize] <= rank[edge.v as usize] {
         count_one(later, edge.u);
     } else {
         count_one(later, edge.v);
     }
 }
 
-/// Counts the supporters that one edge gives.
-fn count_supporters(core: &[u32], edge: Edge, supporters: &mut [u32])
-    requires supporters_each { length supporters.old ≡ length core.now }
-    requires lesser_first { edge.u < edge.v }
-    requires within { edge.v < length core.now }
-    ensures { (v : ℕ) → v < length core.now → slice_index supporters.new v
-        ≡ capped (slice_index supporters.old v
-        + (if leads_to (λ w. nat_le (slice_index core.now v) (slice_index core.now w)) v edge then 1 else 0)) }
-{
-    let (core_u, core_v) = (core[edge.u as usize], core[edge.v as usize]);
-    if core_u <= core_v {
-        count_one(supporters, edge.u);
-    }
-    if core_v <= core_u {
-        count_one(supporters, edge.v);
-    }
-}
-
-/// Counts what one edge gives its ends.
+/// Counts what one edge gives its ends. The core numbers decide first, so that few branches hang on numbers that are met at random.
 fn count_edge(core: &[u32], rank: &[u32], edge: Edge, later: &mut [u32], supporters: &mut [u32])
     requires ranked { length rank.now ≡ length core.now }
     requires later_each { length later.old ≡ length core.now }
@@ -87,8 +46,18 @@ fn count_edge(core: &[u32], rank: &[u32], edge: Edge, later: &mut [u32], support
         ≡ capped (slice_index supporters.old v
         + (if leads_to (λ w. nat_le (slice_index core.now v) (slice_index core.now w)) v edge then 1 else 0)) }
 {
-    count_later(core, rank, edge, later);
-    count_supporters(core, edge, supporters);
+    let (core_u, core_v) = (core[edge.u as usize], core[edge.v as usize]);
+    if core_u < core_v {
+        count_one(later, edge.u);
+        count_one(supporters, edge.u);
+    } else if core_v < core_u {
+        count_one(later, edge.v);
+        count_one(supporters, edge.v);
+    } else {
+        count_by_rank(rank, edge, later);
+        count_one(supporters, edge.u);
+        count_one(supporters, edge.v);
+    }
 }
 
 /// Counts what edges give their ends.

@@ -1,5 +1,6 @@
 //! What is wrong with a list of edges that is to have each edge once.
-ghost use Rattle.std.specs.Prelude.{◌≡◌};
+ghost use Rattle.std.specs.Prelude.{◌≡◌, ◌↔◌, ℕ, List, IsTrue, None, Some};
+ghost use Rattle.kc_graph.specs.declared.bulk.Edge.{Edge};
 ghost use Rattle.kc_tally.specs.Lists.{is_above, fault_after, first_fault};
 
 use kc_graph::Edge;
@@ -24,30 +25,48 @@ pub struct FirstFault {
     pub fault: EdgeFault,
 }
 
-/// Whether an edge is above the one before it, if there is one.
-fn is_above(before: Option<Edge>, edge: Edge) -> bool
-    ensures { result ≡ is_above before edge }
+/// The least that an edge can be listed after: each edge with its lesser end first is above it.
+const ORIGIN: Edge = Edge { u: 0, v: 0 };
+
+/// Whether an edge is above another one.
+fn is_above(last: Edge, edge: Edge) -> bool
+    ensures { result ≡ is_above (Some last) edge }
 {
-    match before {
-        None => true,
-        Some(last) => last.u < edge.u || (last.u == edge.u && last.v < edge.v),
-    }
+    (last.u < edge.u) | ((last.u == edge.u) & (last.v < edge.v))
 }
 
-/// What is wrong with an edge that is listed right after `before`.
-fn fault_after(vertices: usize, before: Option<Edge>, edge: Edge) -> Option<EdgeFault>
-    ensures { result ≡ fault_after vertices before edge }
+/// Whether nothing is wrong with an edge that is listed right after `last`. The tests are joined without branches: nearly each edge passes
+/// all of them.
+fn goes_on(vertices: usize, last: Edge, edge: Edge) -> bool
+    ensures { IsTrue result ↔ fault_after vertices (Some last) edge ≡ None }
 {
-    if edge.u as usize >= vertices || edge.v as usize >= vertices {
+    ((edge.v as usize) < vertices) & (edge.u < edge.v) & is_above(last, edge)
+}
+
+/// What is wrong with an edge that is listed right after `last`.
+fn fault_after(vertices: usize, last: Edge, edge: Edge) -> Option<EdgeFault>
+    ensures { result ≡ fault_after vertices (Some last) edge }
+{
+    if goes_on(vertices, last, edge) {
+        None
+    } else if edge.u as usize >= vertices || edge.v as usize >= vertices {
         Some(EdgeFault::NotAVertex)
     } else if edge.u == edge.v {
         Some(EdgeFault::Loop)
     } else if edge.u > edge.v {
         Some(EdgeFault::GreaterFirst)
-    } else if is_above(before, edge) {
-        None
     } else {
         Some(EdgeFault::NotAbove)
+    }
+}
+
+/// The edge after which a list goes on, or else the least that there is.
+fn first_last(before: Option<Edge>) -> Edge
+    ensures { (vertices : ℕ) (edges : List Edge) → first_fault vertices 0 (Some result) edges ≡ first_fault vertices 0 before edges }
+{
+    match before {
+        Some(last) => last,
+        None => ORIGIN,
     }
 }
 
@@ -56,12 +75,12 @@ fn fault_after(vertices: usize, before: Option<Edge>, edge: Edge) -> Option<Edge
 pub fn first_fault(vertices: usize, before: Option<Edge>, edges: &[Edge]) -> Option<FirstFault>
     ensures { result ≡ first_fault vertices 0 before edges.now }
 {
-    let mut last = before;
+    let mut last = first_last(before);
     for (place, edge) in edges.iter().enumerate() {
         if let Some(fault) = fault_after(vertices, last, *edge) {
             return Some(FirstFault { place, fault });
         }
-        last = Some(*edge);
+        last = *edge;
     }
     None
 }
