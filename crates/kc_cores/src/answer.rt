@@ -18,11 +18,12 @@ use crate::pipe::PipeSink;
 use crate::prepared::{Prepared, prepare};
 use crate::saving::save;
 use crate::stream_check::check_stream;
-use crate::watch_saving::watch_saving;
+use crate::watch_saving::{StreamTask, watch_saving};
 use crate::watching::watch;
 use crate::{CoresStatus, CoresStreams};
 use kc_files::folder::Folder;
 use kc_io::sink::{Sink, write_all};
+use kc_keeper::BatchMaker;
 use kc_wire::wire::Wire;
 use kc_wishes::{CheckRequest, Reply, Request, Wanted, WatchRequest, request_of};
 use std::alloc::Global;
@@ -126,8 +127,9 @@ fn check<I: FileInput, C: FileInput, O: PipeSink, E, L>(
 }
 
 /// All of a run that answers a stream but its line.
-fn answer_stream<I: FileInput, C, O, E, L: Wire, P: Folder>(
+fn answer_stream<I: FileInput, C, O, E, L: Wire, M: BatchMaker, P: Folder>(
     alloc: Global,
+    maker: &M,
     request: WatchRequest<'_>,
     streams: &mut CoresStreams<I, C, O, E, L>,
     folder: &mut P,
@@ -143,10 +145,10 @@ fn answer_stream<I: FileInput, C, O, E, L: Wire, P: Folder>(
     ensures err { streams.new.err ≡ streams.old.err }
 {
     match request.save {
-        None => watch(alloc, request, &mut streams.input, &mut streams.wire),
+        None => watch(alloc, maker, request, &mut streams.input, &mut streams.wire),
         Some(plan) => watch_saving(
             alloc,
-            request,
+            StreamTask { request, maker },
             plan,
             &mut streams.input,
             &mut streams.wire,
@@ -156,8 +158,9 @@ fn answer_stream<I: FileInput, C, O, E, L: Wire, P: Folder>(
 }
 
 /// All of a run but its line.
-fn work<W: AsStr, I: FileInput, C: FileInput, O: PipeSink, E, L: Wire, P: Folder>(
+fn work<M: BatchMaker, W: AsStr, I: FileInput, C: FileInput, O: PipeSink, E, L: Wire, P: Folder>(
     alloc: Global,
+    maker: &M,
     words: &[W],
     streams: &mut CoresStreams<I, C, O, E, L>,
     folder: &mut P,
@@ -173,7 +176,7 @@ fn work<W: AsStr, I: FileInput, C: FileInput, O: PipeSink, E, L: Wire, P: Folder
         Ok(Wanted::Save(request)) => save(alloc, request, &mut streams.input, folder),
         Ok(Wanted::Check(request)) => check(alloc, request, streams),
         Ok(Wanted::CheckStream(request)) => check_stream(alloc, &request, streams),
-        Ok(Wanted::Watch(request)) => answer_stream(alloc, request, streams, folder),
+        Ok(Wanted::Watch(request)) => answer_stream(alloc, maker, request, streams, folder),
     }
 }
 
@@ -181,6 +184,9 @@ fn work<W: AsStr, I: FileInput, C: FileInput, O: PipeSink, E, L: Wire, P: Folder
 /// line to `err`: the summary of the graph where all was written, and else what was found wrong. Or it checks the certificate that they
 /// name for that graph, writes `yes`, or `no` and the id that is at fault, and then what is wrong with it. Or it answers the stream of
 /// the wire, and writes what is wrong with it, if a line is refused. Or the lines become a file of `folder`, and nothing goes to `out`.
+///
+/// Batches of the wire are made by `maker`, by as many workers as the words ask for, or fewer. No clause tells who made them: the answers are the
+/// same.
 ///
 /// `words` are those after the program's name. Its clause has the line and two records. The one is `SaveEnded` where the lines become a file,
 /// and all but the input and the folder is as it was. At `Done` the file has just the lines for the graph that the bytes mean, and other files
@@ -240,15 +246,26 @@ fn work<W: AsStr, I: FileInput, C: FileInput, O: PipeSink, E, L: Wire, P: Folder
 /// ```rust
 /// use kc_cores::answer::answer;
 /// use kc_cores::{CoresStreams, exit_number};
+/// use kc_keeper::KeeperAlone;
 ///
 /// // Streams in memory, as at `answer_in_memory`. The second line of the input has one id.
 /// let mut streams = CoresStreams { input, certificate, out, err, wire };
-/// let status = answer(alloc, &["numbers"], &mut streams, &mut folder); // Refused
+/// let status = answer(alloc, &KeeperAlone, &["numbers"], &mut streams, &mut folder); // Refused
 /// let code = exit_number(status); // 3
 /// let lines = streams.out.taken(); // none
 /// ```
-pub fn answer<W: AsStr, I: FileInput, C: FileInput, O: PipeSink, E: Sink, L: Wire, P: Folder>(
+pub fn answer<
+    M: BatchMaker,
+    W: AsStr,
+    I: FileInput,
+    C: FileInput,
+    O: PipeSink,
+    E: Sink,
+    L: Wire,
+    P: Folder,
+>(
     alloc: Global,
+    maker: &M,
     words: &[W],
     streams: &mut CoresStreams<I, C, O, E, L>,
     folder: &mut P,
@@ -257,6 +274,6 @@ pub fn answer<W: AsStr, I: FileInput, C: FileInput, O: PipeSink, E: Sink, L: Wir
         result line streams.old.input streams.new.input streams.old.certificate streams.new.certificate streams.old.out streams.new.out
         streams.old.wire streams.new.wire folder.old folder.new × ToldLine E.Sink line streams.old.err streams.new.err }
 {
-    let ending = work(alloc, words, streams, folder);
+    let ending = work(alloc, maker, words, streams, folder);
     finish(&mut streams.err, ending)
 }

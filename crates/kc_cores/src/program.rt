@@ -16,6 +16,7 @@ use crate::{CoresStatus, CoresStreams, exit_number};
 use kc_args::words_of;
 use kc_files::folder::Folder;
 use kc_io::sink::Sink;
+use kc_keeper::BatchMaker;
 use kc_wire::wire::Wire;
 use std::alloc::Global;
 use std::env::Args;
@@ -34,8 +35,17 @@ fn exit_with(status: CoresStatus) -> ExitCode
 /// order, and an empty word in place of all where one is not UTF-8.
 ///
 /// Where there is no memory for the words, the status is `NoMemory`, and nothing was read or written.
-pub fn answer_on<I: FileInput, C: FileInput, O: PipeSink, E: Sink, L: Wire, P: Folder>(
+pub fn answer_on<
+    M: BatchMaker,
+    I: FileInput,
+    C: FileInput,
+    O: PipeSink,
+    E: Sink,
+    L: Wire,
+    P: Folder,
+>(
     alloc: Global,
+    maker: &M,
     args: io::Result<Args>,
     streams: &mut CoresStreams<I, C, O, E, L>,
     folder: &mut P,
@@ -52,6 +62,6 @@ pub fn answer_on<I: FileInput, C: FileInput, O: PipeSink, E: Sink, L: Wire, P: F
 {
     match words_of(alloc, args) {
         Err(_) => exit_with(CoresStatus::NoMemory),
-        Ok(words) => exit_with(answer(alloc, words.as_slice(), streams, folder)),
+        Ok(words) => exit_with(answer(alloc, maker, words.as_slice(), streams, folder)),
     }
 }

@@ -13,9 +13,10 @@ use crate::saving::unsaved;
 use crate::watching::{StreamFront, end_so, open};
 use kc_dialogue::opening::Opening;
 use kc_files::folder::Folder;
+use kc_keeper::BatchMaker;
 use kc_saving::{Saves, SavingEnd, answer_and_save};
 use kc_text::Refusal;
-use kc_watch::Watcher;
+use kc_watch::{Watcher, WatcherWith};
 use kc_wire::wire::Wire;
 use kc_wishes::{SavePlan, WatchRequest};
 use std::alloc::Global;
@@ -25,6 +26,13 @@ use std::alloc::Global;
 struct SavedStream<'a> {
     file: Option<&'a str>,
     plan: SavePlan<'a>,
+}
+
+/// A stream that is to be answered, and who makes its batches.
+#[derive(Drop)]
+pub(crate) struct StreamTask<'a, M> {
+    pub(crate) request: WatchRequest<'a>,
+    pub(crate) maker: &'a M,
 }
 
 /// What the saves of a plan are.
@@ -61,55 +69,60 @@ fn end_saving(
 }
 
 /// Answers the stream of a wire behind what a watcher was fed, and saves its states.
-fn save_behind<L: Wire, P: Folder>(
+fn save_behind<L: Wire, M: BatchMaker, P: Folder>(
     alloc: Global,
     stream: SavedStream<'_>,
     opening: &Opening,
-    watcher: &mut Watcher,
+    made: &mut WatcherWith<'_, M>,
     wire: &mut L,
     folder: &mut P,
 ) -> Ending
-    requires { (start : List ℕ) × HasOpened (reply watcher.old.options) (reply_at_end watcher.old.options) (WasFed watcher.old) start
+    requires { (start : List ℕ) × HasOpened (reply made.old.watcher.options) (reply_at_end made.old.watcher.options) (WasFed made.old.watcher) start
         opening.now.flow opening.now.text.items }
-    ensures { (start : List ℕ) → HasOpened (reply watcher.old.options) (reply_at_end watcher.old.options) (WasFed watcher.old) start
-        opening.now.flow opening.now.text.items → StreamSaved L.Wire P.holds P.failed watcher.old.options (plan_of stream.entry.plan)
+    ensures { (start : List ℕ) → HasOpened (reply made.old.watcher.options) (reply_at_end made.old.watcher.options) (WasFed made.old.watcher) start
+        opening.now.flow opening.now.text.items → StreamSaved L.Wire P.holds P.failed made.old.watcher.options (plan_of stream.entry.plan)
         (option_map (λ t. t.now) stream.entry.file) start result.status (line_of result) wire.old wire.new folder.old folder.new }
 {
     let front = StreamFront {
         file: stream.file,
-        lines: watcher.lines(),
+        lines: made.watcher.lines(),
     };
     let saves = saves_of(stream.plan);
-    let how = answer_and_save(alloc, wire, watcher, opening, saves, folder);
+    let how = answer_and_save(alloc, wire, made, opening, saves, folder);
     end_saving(
         alloc,
         front,
         stream.plan.file,
         how,
-        watcher.refusal(),
-        watcher.refused_batches(),
+        made.watcher.refusal(),
+        made.watcher.refused_batches(),
     )
 }
 
-/// Answers the stream of a wire, behind the text of a file where one is named, and saves its states.
-pub(crate) fn watch_saving<I: FileInput, L: Wire, P: Folder>(
+/// Answers the stream of a wire, behind the text of a file where one is named, and saves its states. Batches of the wire are made by the maker of
+/// the task, and those of the file by the keeper alone.
+pub(crate) fn watch_saving<I: FileInput, L: Wire, M: BatchMaker, P: Folder>(
     alloc: Global,
-    request: WatchRequest<'_>,
+    task: StreamTask<'_, M>,
     plan: SavePlan<'_>,
     input: &mut I,
     wire: &mut L,
     folder: &mut P,
 ) -> Ending
-    ensures { WatchSaved I.Source I.behind L.Wire P.holds P.failed (stream_of_request request.entry) (plan_of plan.entry) result.status (line_of result)
-        input.old input.new wire.old wire.new folder.old folder.new }
+    ensures { WatchSaved I.Source I.behind L.Wire P.holds P.failed (stream_of_request task.entry.request) (plan_of plan.entry) result.status
+        (line_of result) input.old input.new wire.old wire.new folder.old folder.new }
 {
+    let StreamTask { request, maker } = task;
     let mut watcher = Watcher::new(alloc, request.options);
     let stream = SavedStream {
         file: request.start.file(),
         plan,
     };
     match open(alloc, request.start, input, &mut watcher) {
-        Ok(opening) => save_behind(alloc, stream, &opening, &mut watcher, wire, folder),
+        Ok(opening) => {
+            let mut made = WatcherWith { watcher, maker };
+            save_behind(alloc, stream, &opening, &mut made, wire, folder)
+        }
         Err(ending) => ending,
     }
 }

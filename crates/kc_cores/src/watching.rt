@@ -24,8 +24,9 @@ use kc_dialogue::open::open_with;
 use kc_dialogue::opening::Opening;
 use kc_dialogue::opening_fault::OpeningFault;
 use kc_graph::NoMemory;
+use kc_keeper::BatchMaker;
 use kc_text::Refusal;
-use kc_watch::Watcher;
+use kc_watch::{Watcher, WatcherWith};
 use kc_wire::wire::Wire;
 use kc_wishes::{StreamStart, WatchRequest};
 use std::alloc::Global;
@@ -230,36 +231,38 @@ pub(crate) fn open<I: FileInput>(
 
 /// Answers the stream of a wire behind what a watcher was fed, each part as soon as it has ended, until it ends, a refused line ends the reading or
 /// a call fails.
-fn answer_behind<L: Wire>(
+fn answer_behind<L: Wire, M: BatchMaker>(
     alloc: Global,
     file: Option<&str>,
     opening: &Opening,
-    watcher: &mut Watcher,
+    made: &mut WatcherWith<'_, M>,
     wire: &mut L,
 ) -> Ending
-    requires { (start : List ℕ) × HasOpened (reply watcher.old.options) (reply_at_end watcher.old.options) (WasFed watcher.old) start
+    requires { (start : List ℕ) × HasOpened (reply made.old.watcher.options) (reply_at_end made.old.watcher.options) (WasFed made.old.watcher) start
         opening.now.flow opening.now.text.items }
-    ensures { (start : List ℕ) → HasOpened (reply watcher.old.options) (reply_at_end watcher.old.options) (WasFed watcher.old) start
-        opening.now.flow opening.now.text.items → StreamAnswered L.Wire watcher.old.options (option_map (λ t. t.now) file.entry) start result.status
+    ensures { (start : List ℕ) → HasOpened (reply made.old.watcher.options) (reply_at_end made.old.watcher.options) (WasFed made.old.watcher) start
+        opening.now.flow opening.now.text.items → StreamAnswered L.Wire made.old.watcher.options (option_map (λ t. t.now) file.entry) start result.status
         (line_of result) wire.old wire.new }
 {
     let front = StreamFront {
         file,
-        lines: watcher.lines(),
+        lines: made.watcher.lines(),
     };
-    let how = answer_opened(alloc, wire, watcher, opening);
+    let how = answer_opened(alloc, wire, made, opening);
     end_so(
         alloc,
         front,
         how,
-        watcher.refusal(),
-        watcher.refused_batches(),
+        made.watcher.refusal(),
+        made.watcher.refused_batches(),
     )
 }
 
-/// Answers the stream of a wire, behind the text of a file where one is named.
-pub(crate) fn watch<I: FileInput, L: Wire>(
+/// Answers the stream of a wire, behind the text of a file where one is named. Batches of the wire are made by `maker`, and those of the file by
+/// the keeper alone.
+pub(crate) fn watch<I: FileInput, L: Wire, M: BatchMaker>(
     alloc: Global,
+    maker: &M,
     request: WatchRequest<'_>,
     input: &mut I,
     wire: &mut L,
@@ -269,7 +272,10 @@ pub(crate) fn watch<I: FileInput, L: Wire>(
 {
     let mut watcher = Watcher::new(alloc, request.options);
     match open(alloc, request.start, input, &mut watcher) {
-        Ok(opening) => answer_behind(alloc, request.start.file(), &opening, &mut watcher, wire),
+        Ok(opening) => {
+            let mut made = WatcherWith { watcher, maker };
+            answer_behind(alloc, request.start.file(), &opening, &mut made, wire)
+        }
         Err(ending) => ending,
     }
 }

@@ -5,6 +5,9 @@
 //! the order, and that the order certifies the numbers. What can't be done is refused by a value that says why, and then nothing has changed
 //! but what it tells.
 //!
+//! A batch may also be made by others for the keeper, as `kc_keeper_workers` does: [`BatchMaker`] is who makes one, with the promise of
+//! [`Keeper::apply`], and [`KeeperAlone`] is the keeper itself.
+//!
 //! `specs/Batches.antt` and `Causes.antt` have the words of the contracts. The crate stands on `kc_journal`, which it restarts by itself: so
 //! its memory goes with the graph, not with the number of updates.
 #![tactic(auto)]
@@ -15,6 +18,7 @@ mod earlier;
 mod entering;
 mod fault;
 mod keeper;
+mod maker;
 mod members;
 
 pub use at_once::tell_cores;
@@ -22,3 +26,4 @@ pub use changes::{Changes, CoreChange};
 pub use entering::first_outside;
 pub use fault::{ApplyFault, GrowFault, OpenFault, UpdateFault};
 pub use keeper::Keeper;
+pub use maker::{BatchMaker, KeeperAlone};

@@ -8,6 +8,8 @@ mod batches;
 #[cfg(test)]
 mod long;
 #[cfg(test)]
+mod makers;
+#[cfg(test)]
 mod paying;
 #[cfg(test)]
 mod refused;

@@ -162,3 +162,18 @@ pub all-told : (options : WatchOptions) (format : ReplyFormat) (bytes : List ℕ
 all-told options format bytes =
     ap₂ (λ (a b : List Fact). a ++ b) (lines-told options format nothing_heard (stream_lines bytes))
     (end-same (options_in options format) options refl refl (heard_at_end options.bad_lines bytes))
+
+-- the options with so many workers
+abbrev pub options_by : WatchOptions → ℕ → WatchOptions
+options_by options workers = record options { workers = workers }
+
+-- by any number of workers the same is told of lines
+pub lines-by : (options : WatchOptions) (workers : ℕ) (heard : Heard) (lines : List StreamLine)
+    → answers_facts (options_by options workers) heard lines ≡ answers_facts options heard lines
+lines-by options workers heard lines = all-same (options_by options workers) options refl refl refl heard lines
+
+-- and of all, once all has come
+pub all-by : (options : WatchOptions) (workers : ℕ) (bytes : List ℕ) → facts_at_end (options_by options workers) bytes ≡ facts_at_end options bytes
+all-by options workers bytes =
+    ap₂ (λ (a b : List Fact). a ++ b) (lines-by options workers nothing_heard (stream_lines bytes))
+    (end-same (options_by options workers) options refl refl (heard_at_end options.bad_lines bytes))

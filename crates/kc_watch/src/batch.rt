@@ -13,7 +13,7 @@ ghost use Rattle.kc_watch.specs.Room.{AreEdgesBelow};
 use crate::NoMemory;
 use kc_batch_effects::decide;
 use kc_graph::Update;
-use kc_keeper::{ApplyFault, Changes, GrowFault, Keeper};
+use kc_keeper::{ApplyFault, BatchMaker, Changes, GrowFault, Keeper};
 use kc_words::VERTICES;
 use std::alloc::Global;
 
@@ -74,10 +74,12 @@ pub(crate) fn make_room(alloc: Global, keeper: &mut Keeper, vertices: u32) -> Re
     }
 }
 
-/// Makes the updates of a batch that decide, and tells what they did, and which core numbers changed. A batch of 2^32 updates or more is too
-/// large for the memory.
-pub(crate) fn make(
+/// Has the updates of a batch that decide made, by so many workers or fewer, and tells what they did, and which core numbers changed. A batch of
+/// 2^32 updates or more is too large for the memory.
+pub(crate) fn make<M: BatchMaker>(
     alloc: Global,
+    maker: &M,
+    workers: u32,
     keeper: &mut Keeper,
     updates: &[Update],
     changes: &mut Changes,
@@ -96,7 +98,7 @@ pub(crate) fn make(
     }
     let batch = decide(alloc, updates)?;
     let count = batch.updates.len();
-    match keeper.apply(alloc, &batch.updates, changes) {
+    match maker.make_batch(alloc, workers, keeper, &batch.updates, changes) {
         Ok(()) => Ok(Effects {
             added: changes.added as u32,
             removed: changes.removed as u32,

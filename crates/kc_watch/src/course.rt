@@ -16,10 +16,11 @@ ghost use Rattle.kc_watch.specs.Watching.{KeepsAccount, StandsAt};
 ghost use Rattle.kc_watch.specs.declared.options.WatchOptions.{WatchOptions};
 
 use crate::NoMemory;
-use crate::kept::Kept;
+use crate::kept::{BatchPart, Kept};
 use crate::options::WatchOptions;
 use crate::start::end_start;
 use crate::state::WatchedState;
+use kc_keeper::BatchMaker;
 use kc_reply::{ReplyFormat, ReplyLine, put_reply_line};
 use kc_stream::{Gathered, Question, StreamLine, read_stream_line};
 use kc_text::{Refusal, TextLine, cut_line};
@@ -87,9 +88,10 @@ impl Course {
     }
 
     /// Ends what is open, the start or a batch, and puts its text. Where there is no memory, nothing is put.
-    fn end_part(
+    fn end_part<M: BatchMaker>(
         &mut self,
         alloc: Global,
+        maker: &M,
         options: WatchOptions,
         out: &mut Vec<u8>,
     ) -> Result<(), NoMemory>
@@ -107,7 +109,11 @@ impl Course {
             return Ok(());
         };
         let number = self.ended.saturating_add(1);
-        kept.end_batch(alloc, options, number, &self.gathered, out)?;
+        let part = BatchPart {
+            number,
+            gathered: &self.gathered,
+        };
+        kept.end_batch(alloc, maker, options, part, out)?;
         self.ended = number;
         Ok(())
     }
@@ -133,9 +139,10 @@ impl Course {
     }
 
     /// Ends what is open, and puts its text, or the line about a batch that is dropped. Where there is no memory, nothing is put.
-    pub(crate) fn end_open(
+    pub(crate) fn end_open<M: BatchMaker>(
         &mut self,
         alloc: Global,
+        maker: &M,
         options: WatchOptions,
         out: &mut Vec<u8>,
     ) -> Result<(), NoMemory>
@@ -149,15 +156,16 @@ impl Course {
             × OnErr result (IsPrefixOf (ending_text options heard.dropped heard.told) put)) }
     {
         match self.gathered.dropped() {
-            None => self.end_part(alloc, options, out),
+            None => self.end_part(alloc, maker, options, out),
             Some(refusal) => self.end_dropped(options.format, refusal, out),
         }
     }
 
     /// Reads a batch line, which ends what stands before it.
-    fn take_batch(
+    fn take_batch<M: BatchMaker>(
         &mut self,
         alloc: Global,
+        maker: &M,
         options: WatchOptions,
         out: &mut Vec<u8>,
     ) -> Result<(), NoMemory>
@@ -168,14 +176,15 @@ impl Course {
             → OnOk result (put ≡ answer_behind options heard (says.Tells said.Batch))
             × OnErr result (IsPrefixOf (answer_behind options heard (says.Tells said.Batch)) put)) }
     {
-        self.end_open(alloc, options, out)?;
+        self.end_open(alloc, maker, options, out)?;
         self.gathered.take(alloc, options.bad_lines, StreamLine::Tells(TextLine::Batch))
     }
 
     /// Reads a line that tells, and puts what it is answered.
-    fn take_told(
+    fn take_told<M: BatchMaker>(
         &mut self,
         alloc: Global,
+        maker: &M,
         options: WatchOptions,
         told: TextLine,
         out: &mut Vec<u8>,
@@ -188,7 +197,7 @@ impl Course {
             × OnErr result (IsPrefixOf (answer_behind options heard (says.Tells told)) put)) }
     {
         match told {
-            TextLine::Batch => self.take_batch(alloc, options, out),
+            TextLine::Batch => self.take_batch(alloc, maker, options, out),
             _ => self
                 .gathered
                 .take(alloc, options.bad_lines, StreamLine::Tells(told)),
@@ -238,9 +247,10 @@ impl Course {
     }
 
     /// Reads one line more, and puts what it is answered. Behind a line that ends the reading none is read.
-    fn take(
+    fn take<M: BatchMaker>(
         &mut self,
         alloc: Global,
+        maker: &M,
         options: WatchOptions,
         line: StreamLine,
         out: &mut Vec<u8>,
@@ -254,15 +264,16 @@ impl Course {
             return Ok(());
         }
         match line {
-            StreamLine::Tells(told) => self.take_told(alloc, options, told, out),
+            StreamLine::Tells(told) => self.take_told(alloc, maker, options, told, out),
             StreamLine::Asks(question) => self.take_question(alloc, options, question, out),
         }
     }
 
     /// Reads all lines of some bytes, and puts what they are answered.
-    pub(crate) fn read(
+    pub(crate) fn read<M: BatchMaker>(
         &mut self,
         alloc: Global,
+        maker: &M,
         options: WatchOptions,
         bytes: &[u8],
         out: &mut Vec<u8>,
@@ -276,7 +287,7 @@ impl Course {
     {
         let mut rest = bytes;
         while let Some((line, more)) = cut_line(rest) {
-            self.take(alloc, options, read_stream_line(line), out)?;
+            self.take(alloc, maker, options, read_stream_line(line), out)?;
             rest = more;
         }
         Ok(())

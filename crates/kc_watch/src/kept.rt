@@ -22,7 +22,7 @@ use crate::roomy::RoomyKeeper;
 use crate::state::WatchedState;
 use kc_answers::{Numbers, needs_layers, put_answer};
 use kc_changes::put_changes;
-use kc_keeper::Changes;
+use kc_keeper::{BatchMaker, Changes};
 use kc_reply::{ReplyFormat, ReplyLine, put_reply_line};
 use kc_report::Line;
 use kc_stream::{Gathered, Ids, Question};
@@ -34,6 +34,13 @@ pub(crate) struct Kept {
     keeper: RoomyKeeper,
     /// What the last batch changed, whose memory the next one takes.
     changes: Changes,
+}
+
+/// A batch that ends: its number, and what was gathered of it.
+#[derive(Clone, Copy)]
+pub(crate) struct BatchPart<'a> {
+    pub(crate) number: u32,
+    pub(crate) gathered: &'a Gathered,
 }
 
 /// The line of a batch that has ended, and how many ids were known before it.
@@ -66,8 +73,14 @@ impl Kept {
         }
     }
 
-    /// Makes the updates of a batch, with the ids that came in it, and tells what they did.
-    fn enter(&mut self, alloc: Global, gathered: &Gathered) -> Result<Effects, NoMemory>
+    /// Has the updates of a batch made, with the ids that came in it, by so many workers or fewer, and tells what they did.
+    fn enter<M: BatchMaker>(
+        &mut self,
+        alloc: Global,
+        maker: &M,
+        workers: u32,
+        gathered: &Gathered,
+    ) -> Result<Effects, NoMemory>
         requires more { self.old.keeper.graph.size ≤ length gathered.now.ids }
         requires within { All (IsUpdateBelow (length gathered.now.ids)) gathered.now.updates.items }
         ensures graph { OnOk result
@@ -77,8 +90,7 @@ impl Kept {
             (core_numbers_of self.new.keeper.graph) self.new.changes.cores.items) }
     {
         self.keeper.grow_to(alloc, gathered.ids().count())?;
-        self.keeper
-            .make(alloc, gathered.updates(), &mut self.changes)
+        self.keeper.make(alloc, maker, workers, gathered.updates(), &mut self.changes)
     }
 
     /// The line of a batch with this number, which did this.
@@ -175,25 +187,26 @@ impl Kept {
     }
 
     /// Ends a batch: makes its updates, with the ids that came in it, and puts its text. Where there is no memory, nothing is put.
-    pub(crate) fn end_batch(
+    pub(crate) fn end_batch<M: BatchMaker>(
         &mut self,
         alloc: Global,
+        maker: &M,
         options: WatchOptions,
-        number: u32,
-        gathered: &Gathered,
+        part: BatchPart<'_>,
         out: &mut Vec<u8>,
     ) -> Result<(), NoMemory>
-        requires more { self.old.keeper.graph.size ≤ length gathered.now.ids }
-        requires within { All (IsUpdateBelow (length gathered.now.ids)) gathered.now.updates.items }
+        requires more { self.old.keeper.graph.size ≤ length part.gathered.now.ids }
+        requires within { All (IsUpdateBelow (length part.gathered.now.ids)) part.gathered.now.updates.items }
         ensures graph { OnOk result
-            (self.new.keeper.graph ≡ graph_with self.old.keeper.graph gathered.now.ids (last_batch gathered.now.updates.items)) }
-        ensures put { OnOk result ((before : Account) → IsAccountBefore before number self.old.keeper.graph gathered.now.ids
-            → out.new.items ≡ out.old.items ++ batch_text options before (last_batch gathered.now.updates.items)
-            (entered before gathered.now.ids (last_batch gathered.now.updates.items))) }
+            (self.new.keeper.graph ≡ graph_with self.old.keeper.graph part.entry.gathered.now.ids (last_batch part.entry.gathered.now.updates.items)) }
+        ensures put { OnOk result ((before : Account) → IsAccountBefore before part.entry.number self.old.keeper.graph part.entry.gathered.now.ids
+            → out.new.items ≡ out.old.items ++ batch_text options before (last_batch part.entry.gathered.now.updates.items)
+            (entered before part.entry.gathered.now.ids (last_batch part.entry.gathered.now.updates.items))) }
         ensures err { OnErr result (out.new.items ≡ out.old.items) }
     {
+        let BatchPart { number, gathered } = part;
         let known = self.keeper.vertices();
-        let effects = self.enter(alloc, gathered)?;
+        let effects = self.enter(alloc, maker, options.workers, gathered)?;
         let line = self.line(number, effects);
         let end = BatchEnd { line, known };
         self.put_end_or_nothing(alloc, options, &end, gathered.ids().names(), out)

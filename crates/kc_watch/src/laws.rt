@@ -76,3 +76,11 @@ pub fn each_format_tells_the_same()
     ensures at_end { (options : WatchOptions) (format : ReplyFormat) (bytes : List ℕ)
         → reply_at_end (record options { format = format }) bytes ≡ facts_text format (facts_at_end options bytes) }
 {}
+
+/// By however many workers batches may be made, the text is the same.
+pub fn the_number_of_workers_changes_no_answer()
+    ensures so_far { (options : WatchOptions) (workers : ℕ) (bytes : List ℕ)
+        → reply (record options { workers = workers }) bytes ≡ reply options bytes }
+    ensures at_end { (options : WatchOptions) (workers : ℕ) (bytes : List ℕ)
+        → reply_at_end (record options { workers = workers }) bytes ≡ reply_at_end options bytes }
+{}

@@ -9,6 +9,9 @@
 //!
 //! A refused line ends the answers, or drops its batch, as [`BadLines`] says: what the batch did is forgotten, and a line tells so in its place.
 //!
+//! A batch may be made by others for the keeper, as workers do (`kc_keeper_workers`): a [`WatcherWith`] has them, and no clause tells of it. So
+//! the answers are the same whoever makes the batches. The crate itself starts no thread.
+//!
 //! What is kept is the graph with its core numbers (`kc_keeper`), the ids and the batch that is open (`kc_stream`): the memory is theirs, and
 //! not that of the stream.
 #![tactic(auto)]
@@ -24,6 +27,7 @@ mod roomy;
 mod start;
 mod state;
 mod watcher;
+mod watcher_with;
 
 pub use kc_changes::Show;
 pub use kc_reply::ReplyFormat;
@@ -32,3 +36,4 @@ pub use options::WatchOptions;
 pub use state::WatchedState;
 pub use std::alloc::AllocError as NoMemory;
 pub use watcher::Watcher;
+pub use watcher_with::WatcherWith;

@@ -1,4 +1,5 @@
-//! What a stream is answered beside the lines of its graph and of its batches, what becomes of bad lines, and how the answers are written.
+//! What a stream is answered beside the lines of its graph and of its batches, what becomes of bad lines, how the answers are written, and by how
+//! many workers its batches may be made.
 ghost use Rattle.std.specs.Prelude.{◌≡◌, ◌⊎◌, None, false, is_some, true};
 ghost use Rattle.kc_changes.specs.declared.show.Show.{Show};
 
@@ -6,7 +7,8 @@ use kc_changes::Show;
 use kc_reply::ReplyFormat;
 use kc_stream::BadLines;
 
-/// What a stream is answered beside the lines of its graph and of its batches, what becomes of bad lines, and how the answers are written.
+/// What a stream is answered beside the lines of its graph and of its batches, what becomes of bad lines, how the answers are written, and by how
+/// many workers its batches may be made.
 #[derive(Clone, Copy, Debug, PartialEq, Eq)]
 pub struct WatchOptions {
     /// What is told of core numbers behind a batch.
@@ -17,6 +19,8 @@ pub struct WatchOptions {
     pub bad_lines: BadLines,
     /// How the answers are written.
     pub format: ReplyFormat,
+    /// By how many workers a batch may be made, where somebody has workers (`kc_keeper::BatchMaker`). It changes no answer.
+    pub workers: u32,
 }
 
 impl WatchOptions {

@@ -19,7 +19,7 @@ use crate::NoMemory;
 use crate::batch::{Effects, make, make_room};
 use crate::first_graph::without_spare;
 use kc_graph::{Lawful, Update, decompose_owned};
-use kc_keeper::{Changes, Keeper, OpenFault};
+use kc_keeper::{BatchMaker, Changes, Keeper, OpenFault};
 use kc_tally::layers;
 use std::alloc::Global;
 use std::marker::Model;
@@ -136,10 +136,12 @@ impl RoomyKeeper {
         Ok(())
     }
 
-    /// Makes the updates of a batch that decide, and tells what they did, and which core numbers changed.
-    pub(crate) fn make(
+    /// Has the updates of a batch that decide made, by so many workers or fewer, and tells what they did, and which core numbers changed.
+    pub(crate) fn make<M: BatchMaker>(
         &mut self,
         alloc: Global,
+        maker: &M,
+        workers: u32,
         updates: &[Update],
         changes: &mut Changes,
     ) -> Result<Effects, NoMemory>
@@ -149,7 +151,7 @@ impl RoomyKeeper {
         ensures cores { OnOk result (AreCoreChanges (core_numbers_of self.old.graph) (core_numbers_of self.new.graph) changes.new.cores.items) }
     {
         self.layers = None;
-        make(alloc, &mut self.keeper, updates, changes)
+        make(alloc, maker, workers, &mut self.keeper, updates, changes)
     }
 
     /// The graph with its core numbers and an order that certifies them, which shares no list with the keeper. Where there are spare vertices

@@ -1,6 +1,6 @@
 //! What is fed a stream, and answers it.
 ghost use Rattle.std.specs.Prelude.{◌≡◌, ◌++◌, [], None, Some, true, IfOk, List, ℕ, is_some, OnErr, OnOk};
-ghost use Rattle.kc_dialogue.specs.Replies.{IsPrefixOf};
+ghost use Rattle.kc_dialogue.specs.Replies.{IsPrefixOf, StaysFrom};
 ghost use Rattle.kc_dialogue.specs.declared.flow.Flow.{Flow};
 ghost use Rattle.kc_text.specs.Lines.{EndsLine};
 ghost use Rattle.kc_stream.specs.Hearing.{heard_at_end, heard_so_far};
@@ -14,11 +14,13 @@ use crate::options::WatchOptions;
 use crate::state::WatchedState;
 use kc_dialogue::flow::Flow;
 use kc_dialogue::replier::Replier;
+use kc_keeper::{BatchMaker, KeeperAlone};
 use kc_stream::ended_len;
 use kc_text::Refusal;
 use std::alloc::Global;
 
-/// What is fed a stream, and answers it with the lines of its graph and of its batches, each as soon as its part of the stream has ended.
+/// What is fed a stream, and answers it with the lines of its graph and of its batches, each as soon as its part of the stream has ended. Its
+/// batches are made by the keeper alone; those of a `WatcherWith` may be made by others.
 #[derive(Drop)]
 pub struct Watcher {
     options: WatchOptions,
@@ -37,7 +39,7 @@ impl Watcher {
     /// use kc_watch::{BadLines, ReplyFormat, Show, WatchOptions, Watcher};
     ///
     /// let format = ReplyFormat::Words;
-    /// let options = WatchOptions { show: Show::Changes, enter: Some(2), bad_lines: BadLines::Stop, format };
+    /// let options = WatchOptions { show: Show::Changes, enter: Some(2), bad_lines: BadLines::Stop, format, workers: 1 };
     /// let mut watcher = Watcher::new(alloc, options);
     /// let mut out = Vec::new(alloc);
     /// watcher.feed(alloc, b"1 2\n2 3\nbatch\n+ 1 3\n", &mut out)?; // "graph vertices 3 edges 2 top 1\n"
@@ -113,7 +115,13 @@ impl Watcher {
     }
 
     /// Reads the lines that end in some bytes behind those that are kept. No line has ended the reading so far.
-    fn read_ended(&mut self, alloc: Global, whole: &[u8], out: &mut Vec<u8>) -> Result<(), NoMemory>
+    fn read_ended<M: BatchMaker>(
+        &mut self,
+        alloc: Global,
+        maker: &M,
+        whole: &[u8],
+        out: &mut Vec<u8>,
+    ) -> Result<(), NoMemory>
         requires going { self.old.course.gathered.refusal ≡ None }
         requires ended { EndsLine whole.now }
         requires fed { (fed : List ℕ) × WasFed self.old fed }
@@ -127,12 +135,64 @@ impl Watcher {
             return Ok(());
         }
         if self.begun.is_empty() {
-            return self.course.read(alloc, self.options, whole, out);
+            return self.course.read(alloc, maker, self.options, whole, out);
         }
         self.begun.extend_from_slice(whole)?;
-        self.course.read(alloc, self.options, &self.begun, out)?;
+        self.course
+            .read(alloc, maker, self.options, &self.begun, out)?;
         self.begun.clear();
         Ok(())
+    }
+
+    /// Takes the next bytes, as `feed` does, and has batches made by `maker`.
+    pub(crate) fn feed_by<M: BatchMaker>(
+        &mut self,
+        alloc: Global,
+        maker: &M,
+        piece: &[u8],
+        out: &mut Vec<u8>,
+    ) -> Result<Flow, NoMemory>
+        requires { (fed : List ℕ) × WasFed self.old fed }
+        ensures fed { OnOk result ((fed : List ℕ) → WasFed self.old fed → WasFed self.new (fed ++ piece.now)) }
+        ensures put { (put : List ℕ) × (out.new.items ≡ out.old.items ++ put) × ((fed : List ℕ) → WasFed self.old fed
+            → OnOk result (reply self.old.options (fed ++ piece.now) ≡ reply self.old.options fed ++ put)
+            × OnErr result (IsPrefixOf (reply self.old.options (fed ++ piece.now)) (reply self.old.options fed ++ put))) }
+        ensures ended { IfOk result (λ flow. flow ≡ Flow.Ended → (fed : List ℕ) → WasFed self.old fed
+            → StaysFrom (reply self.old.options) (reply_at_end self.old.options) (fed ++ piece.now)) }
+        ensures settings { self.new.options ≡ self.old.options }
+    {
+        if self.course.refusal().is_some() {
+            return Ok(Flow::Ended);
+        }
+        let (whole, rest) = piece.split_at(ended_len(piece));
+        self.read_ended(alloc, maker, whole, out)?;
+        self.begun.extend_from_slice(rest)?;
+        Ok(self.flow())
+    }
+
+    /// The input has ended, as `end` says; a batch that is open is made by `maker`.
+    pub(crate) fn end_by<M: BatchMaker>(
+        &mut self,
+        alloc: Global,
+        maker: &M,
+        out: &mut Vec<u8>,
+    ) -> Result<(), NoMemory>
+        requires { (fed : List ℕ) × WasFed self.old fed }
+        ensures ended { OnOk result ((fed : List ℕ) → WasFed self.old fed → HasEnded self.new fed) }
+        ensures put { (put : List ℕ) × (out.new.items ≡ out.old.items ++ put) × ((fed : List ℕ) → WasFed self.old fed
+            → OnOk result (reply_at_end self.old.options fed ≡ reply self.old.options fed ++ put)
+            × OnErr result (IsPrefixOf (reply_at_end self.old.options fed) (reply self.old.options fed ++ put))) }
+        ensures settings { self.new.options ≡ self.old.options }
+    {
+        if self.course.refusal().is_some() {
+            return Ok(());
+        }
+        self.course
+            .read(alloc, maker, self.options, &self.begun, out)?;
+        if self.course.refusal().is_some() {
+            return Ok(());
+        }
+        self.course.end_open(alloc, maker, self.options, out)
     }
 }
 
@@ -150,23 +210,10 @@ impl Replier for Watcher {
     ghost has_ended = { HasEnded };
 
     fn feed(&mut self, alloc: Global, piece: &[u8], out: &mut Vec<u8>) -> Result<Flow, NoMemory> {
-        if self.course.refusal().is_some() {
-            return Ok(Flow::Ended);
-        }
-        let (whole, rest) = piece.split_at(ended_len(piece));
-        self.read_ended(alloc, whole, out)?;
-        self.begun.extend_from_slice(rest)?;
-        Ok(self.flow())
+        self.feed_by(alloc, &KeeperAlone, piece, out)
     }
 
     fn end(&mut self, alloc: Global, out: &mut Vec<u8>) -> Result<(), NoMemory> {
-        if self.course.refusal().is_some() {
-            return Ok(());
-        }
-        self.course.read(alloc, self.options, &self.begun, out)?;
-        if self.course.refusal().is_some() {
-            return Ok(());
-        }
-        self.course.end_open(alloc, self.options, out)
+        self.end_by(alloc, &KeeperAlone, out)
     }
 }

@@ -11,6 +11,7 @@ const CHANGES: WatchOptions = WatchOptions {
     enter: None,
     bad_lines: BadLines::Stop,
     format: ReplyFormat::Words,
+    workers: 1,
 };
 
 /// The ids 8, 5, 7 and 9, and 6 without an edge: a triangle of the first three, and 9 that hangs on 8. Another program worked out the check sum.

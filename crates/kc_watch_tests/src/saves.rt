@@ -6,8 +6,9 @@ use kc_files::fault::FolderFault;
 use kc_files::folder::Unplaced;
 use kc_files::mem_folder::{MemFolder, Refusals};
 use kc_io::mem_sink::MemSink;
+use kc_keeper::KeeperAlone;
 use kc_saving::{Saves, SavingEnd, answer_and_save};
-use kc_watch::{BadLines, ReplyFormat, Show, WatchOptions, Watcher};
+use kc_watch::{BadLines, ReplyFormat, Show, WatchOptions, Watcher, WatcherWith};
 use kc_wire::hindrances::Hindrances;
 use kc_wire::mem_wire::MemWire;
 use std::process::Abort;
@@ -18,6 +19,7 @@ const BRIEF: WatchOptions = WatchOptions {
     enter: None,
     bad_lines: BadLines::Stop,
     format: ReplyFormat::Words,
+    workers: 1,
 };
 
 /// A triangle of 8, 5 and 7, and then 9, which hangs on 8.
@@ -81,11 +83,14 @@ fn saved<R: Abort + AllocGlobal>(rt: &R, case: Case<'_>, folder: &mut MemFolder)
         file: "state",
         every: case.every,
     };
-    let mut watcher = Watcher::new(alloc, BRIEF);
+    let mut made = WatcherWith {
+        watcher: Watcher::new(alloc, BRIEF),
+        maker: &KeeperAlone,
+    };
     answer_and_save(
         alloc,
         &mut wire_of(rt, case),
-        &mut watcher,
+        &mut made,
         &opening,
         saves,
         folder,

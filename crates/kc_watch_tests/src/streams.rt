@@ -14,6 +14,7 @@ const BRIEF: WatchOptions = WatchOptions {
     enter: None,
     bad_lines: BadLines::Stop,
     format: ReplyFormat::Words,
+    workers: 1,
 };
 
 /// And each core number that changes.
@@ -22,6 +23,7 @@ pub(crate) const CHANGES: WatchOptions = WatchOptions {
     enter: None,
     bad_lines: BadLines::Stop,
     format: ReplyFormat::Words,
+    workers: 1,
 };
 
 /// And who comes into the 2-core or leaves it.
@@ -30,6 +32,7 @@ const ENTER: WatchOptions = WatchOptions {
     enter: Some(2),
     bad_lines: BadLines::Stop,
     format: ReplyFormat::Words,
+    workers: 1,
 };
 
 /// And both.
@@ -38,6 +41,7 @@ const BOTH: WatchOptions = WatchOptions {
     enter: Some(1),
     bad_lines: BadLines::Stop,
     format: ReplyFormat::Words,
+    workers: 1,
 };
 
 /// A refused line drops its batch, and the next ones have each core number that changes.
@@ -46,6 +50,7 @@ const DROPS: WatchOptions = WatchOptions {
     enter: None,
     bad_lines: BadLines::Batch,
     format: ReplyFormat::Words,
+    workers: 1,
 };
 
 /// Each core number that changes, and who comes into the 2-core or leaves it, as JSON objects. A refused line drops its batch.
@@ -54,6 +59,7 @@ const OBJECTS: WatchOptions = WatchOptions {
     enter: Some(2),
     bad_lines: BadLines::Batch,
     format: ReplyFormat::Json,
+    workers: 1,
 };
 
 /// What a stream is answered, the refused line that ends the answers, and how many batches are dropped.

@@ -447,9 +447,10 @@ abbrev pub reply_format_in : Option Text → Option ReplyFormat
 reply_format_in None = Some written.Words
 reply_format_in (Some text) = reply_format_of text
 
--- what a stream is to be answered, where all parts are right
+-- what a stream is to be answered, where all parts are right; each batch is made by one worker
 abbrev pub options_of : Option Show → Option (Option ℕ) → Option StreamBadLines → Option ReplyFormat → Option WatchOptions
-options_of (Some show) (Some enter) (Some bad) (Some format) = Some (record { show = show; enter = enter; bad_lines = bad; format = format })
+options_of (Some show) (Some enter) (Some bad) (Some format) =
+    Some (record { show = show; enter = enter; bad_lines = bad; format = format; workers = 1 })
 options_of _ _ _ _ = None
 
 -- what a stream is to be answered, by the matches of the command

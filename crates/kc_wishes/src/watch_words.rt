@@ -216,6 +216,7 @@ pub(crate) fn options_of(
             enter,
             bad_lines,
             format,
+            workers: 1,
         }),
         _ => None,
     }

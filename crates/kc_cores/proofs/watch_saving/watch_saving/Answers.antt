@@ -13,8 +13,8 @@ save_behind-requires g c = let (front, stands, opened) = c.in-Ok.ensures.opened 
 pub returns-in-Ok : goal.returns-in-Ok
 returns-in-Ok g c =
     let (front, stands, opened) = c.in-Ok.ensures.opened in
-    let start = start_of c.args.request.start in
-    let same : c.open.new.watcher.options ≡ c.args.request.options = c.in-Ok.ensures.options ∙ c.new-watcher.ensures.options in
+    let start = start_of c.args.task.request.start in
+    let same : c.open.new.watcher.options ≡ c.args.task.request.options = c.in-Ok.ensures.options ∙ c.new-watcher.ensures.options in
     record {
       ended = inl (
         front,

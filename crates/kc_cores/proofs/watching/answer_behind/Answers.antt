@@ -12,7 +12,7 @@ use Rattle.kc_cores.proofs.watching.answer_behind.Goals as goal
 pub returns : goal.returns
 returns g c = λ start opened.
     let (events, happened, answered, so_far, at_end) = c.answer_opened-how.ensures.answered start opened in
-    let same : c.answer_opened-how.new.replier.options ≡ c.args.watcher.now.options = c.answer_opened-how.ensures.settings in
+    let same : c.answer_opened-how.new.replier.watcher.options ≡ c.args.made.now.watcher.options = c.answer_opened-how.ensures.settings in
     let both : Option Refusal → ℕ → Option Refusal × ℕ = (λ r n. (r, n)) in
     let file = option_map (λ t. t.now) c.args.file in
     let how = c.answer_opened-how.result in
@@ -23,14 +23,14 @@ returns g c = λ start opened.
       happened = happened;
       answered = answered;
       ended =
-          subst (λ (n : ℕ). HasEndedSo file n how (outcome (heard_so_far c.args.watcher.now.options.bad_lines all))
-          (outcome (heard_at_end c.args.watcher.now.options.bad_lines all)) c.end_so.result.status (line_of c.end_so.result))
+          subst (λ (n : ℕ). HasEndedSo file n how (outcome (heard_so_far c.args.made.now.watcher.options.bad_lines all))
+          (outcome (heard_at_end c.args.made.now.watcher.options.bad_lines all)) c.end_so.result.status (line_of c.end_so.result))
           (c.lines.ensures start opened.fed)
           (subst (λ (o : WatchOptions). HasEndedSo file c.lines.result how (outcome (heard_so_far o.bad_lines all)) (outcome (heard_at_end o.bad_lines all))
           c.end_so.result.status (line_of c.end_so.result)) same
           (HasEndedSo-is file c.lines.result how (both c.refusal.result c.refused_batches.result)
-          (outcome (heard_so_far c.answer_opened-how.new.replier.options.bad_lines all))
-          (outcome (heard_at_end c.answer_opened-how.new.replier.options.bad_lines all)) c.end_so.result.status (line_of c.end_so.result)
+          (outcome (heard_so_far c.answer_opened-how.new.replier.watcher.options.bad_lines all))
+          (outcome (heard_at_end c.answer_opened-how.new.replier.watcher.options.bad_lines all)) c.end_so.result.status (line_of c.end_so.result)
           (λ e. ap₂ both (c.refusal.ensures.so_far all (so_far e)) (c.refused_batches.ensures.so_far all (so_far e)))
           (λ e. ap₂ both (c.refusal.ensures.at_end all (at_end e)) (c.refused_batches.ensures.at_end all (at_end e)))
           c.end_so.ensures));

@@ -9,28 +9,28 @@ use Rattle.kc_saving.proofs.answer.answer_and_end.Goals as goal
 
 pub returns-in-Err-clause-kept : goal.returns-in-Err-clause-kept
 returns-in-Err-clause-kept g c = λ start first going none.
-    let options : WatchOptions = c.args.watcher.now.options in
+    let options : WatchOptions = c.args.made.now.watcher.options in
     let (events, told, (dialogue, answered, (saved, h))) = c.in-Err.ensures.turned start first going none in (
       events,
       told,
       subst (HasKept options c.args.saves.file.now c.args.saves.every (g.P.Folder.holds c.args.folder.now) (g.P.Folder.holds c.answer_turns.new.folder) start
-          c.answer_turns.new.watcher (first ++ events)) (sym c.end_by_fault.ensures)
+          c.answer_turns.new.made.watcher (first ++ events)) (sym c.end_by_fault.ensures)
           (kept-unsaved options c.args.saves.file.now c.args.saves.every (g.P.Folder.holds c.args.folder.now) (g.P.Folder.holds c.answer_turns.new.folder)
-          start c.answer_turns.new.watcher (first ++ events) saved c.in-Err.fault
+          start c.answer_turns.new.made.watcher (first ++ events) saved c.in-Err.fault
           (answered-all (behind (reply options) start) (behind (reply_at_end options) start) (first ++ events) dialogue answered) h),
     )
 
 pub returns-in-Ok-save_last-clause-kept : goal.returns-in-Ok-save_last-clause-kept
 returns-in-Ok-save_last-clause-kept g c = λ start first going none.
-    let options : WatchOptions = c.args.watcher.now.options in
+    let options : WatchOptions = c.args.made.now.watcher.options in
     let before = g.P.Folder.holds c.args.folder.now in
     let (events, told, turned) = turned-done options c.args.saves.file.now c.args.saves.every before (g.P.Folder.holds c.answer_turns.new.folder) start first
-    c.answer_turns.new.watcher (g.W.Wire.history c.args.wire.now) (g.W.Wire.history c.answer_turns.new.wire) c.in-Ok-Done.field-0 c.in-Ok-Done.field-0-is
+    c.answer_turns.new.made.watcher (g.W.Wire.history c.args.wire.now) (g.W.Wire.history c.answer_turns.new.wire) c.in-Ok-Done.field-0 c.in-Ok-Done.field-0-is
     (c.in-Ok-Done.ensures.turned start first going none) in (
       events,
       told,
       kept-done options c.args.saves.file.now c.args.saves.every before (g.P.Folder.holds c.answer_turns.new.folder) (g.P.Folder.holds c.save_last.new.folder)
-          start c.answer_turns.new.watcher (first ++ events) turned
+          start c.answer_turns.new.made.watcher (first ++ events) turned
           (λ fed saved ended h. subst (λ (o : WatchOptions). IsKeptAtEnd c.args.saves.file.now o.bad_lines before (g.P.Folder.holds c.save_last.new.folder) fed)
           c.in-Ok-Done.ensures.options (c.in-Ok-save_last.ensures.kept before fed saved ended
           (subst (λ (o : WatchOptions). HoldsSave c.args.saves.file.now o.bad_lines before (g.P.Folder.holds c.answer_turns.new.folder) fed saved)
@@ -39,16 +39,16 @@ returns-in-Ok-save_last-clause-kept g c = λ start first going none.
 
 pub returns-in-Err-save_last-clause-kept : goal.returns-in-Err-save_last-clause-kept
 returns-in-Err-save_last-clause-kept g c = λ start first going none.
-    let options : WatchOptions = c.args.watcher.now.options in
+    let options : WatchOptions = c.args.made.now.watcher.options in
     let before = g.P.Folder.holds c.args.folder.now in
     let (events, told, turned) = turned-done options c.args.saves.file.now c.args.saves.every before (g.P.Folder.holds c.answer_turns.new.folder) start first
-    c.answer_turns.new.watcher (g.W.Wire.history c.args.wire.now) (g.W.Wire.history c.answer_turns.new.wire) c.in-Ok-Done.field-0 c.in-Ok-Done.field-0-is
+    c.answer_turns.new.made.watcher (g.W.Wire.history c.args.wire.now) (g.W.Wire.history c.answer_turns.new.wire) c.in-Ok-Done.field-0 c.in-Ok-Done.field-0-is
     (c.in-Ok-Done.ensures.turned start first going none) in (
       events,
       told,
-      subst (HasKept options c.args.saves.file.now c.args.saves.every before (g.P.Folder.holds c.save_last.new.folder) start c.answer_turns.new.watcher
+      subst (HasKept options c.args.saves.file.now c.args.saves.every before (g.P.Folder.holds c.save_last.new.folder) start c.answer_turns.new.made.watcher
           (first ++ events)) (sym c.end_by_fault-in-Err-save_last.ensures)
           (kept-undone options c.args.saves.file.now c.args.saves.every before (g.P.Folder.holds c.answer_turns.new.folder)
-          (g.P.Folder.holds c.save_last.new.folder) start c.answer_turns.new.watcher (first ++ events) c.in-Err-save_last.fault turned
+          (g.P.Folder.holds c.save_last.new.folder) start c.answer_turns.new.made.watcher (first ++ events) c.in-Err-save_last.fault turned
           c.in-Err-save_last.ensures.stays),
     )

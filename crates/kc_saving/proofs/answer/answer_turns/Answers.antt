@@ -15,10 +15,11 @@ turns-init g c = record {
   goes = λ start first going none. record {
     events = [];
     told = TellsMore-nothing (g.W.Wire.history c.args.wire.now);
-    going = subst (IsGoing (behind (reply c.args.watcher.now.options) start) (λ read. WasFed c.args.watcher.now (start ++ read)))
+    going = subst (IsGoing (behind (reply c.args.made.now.watcher.options) start) (λ read. WasFed c.args.made.now.watcher (start ++ read)))
         (sym (append-nil first)) going;
     reads = refl;
-    kept = HoldsSave-begin c.args.saves.file.now c.args.watcher.now.options.bad_lines (g.P.Folder.holds c.args.folder.now) (start ++ read_in (first ++ []));
+    kept = HoldsSave-begin c.args.saves.file.now c.args.made.now.watcher.options.bad_lines (g.P.Folder.holds c.args.folder.now)
+        (start ++ read_in (first ++ []));
   };
   options = refl;
   faultless = refl;
@@ -40,7 +41,7 @@ answer_next-requires-clause-fed g c =
 
 pub returns-in-Err-clause-turned : goal.returns-in-Err-clause-turned
 returns-in-Err-clause-turned g c = λ start first going none.
-    goes-unsaved c.args.watcher.now.options c.args.saves.file.now (g.P.Folder.holds c.args.folder.now) start first c.args.saves.every c.turns.watcher
+    goes-unsaved c.args.made.now.watcher.options c.args.saves.file.now (g.P.Folder.holds c.args.folder.now) start first c.args.saves.every c.turns.made.watcher
     (g.W.Wire.history c.args.wire.now) (g.W.Wire.history c.turns.wire) (g.P.Folder.holds c.turns.folder) (g.P.Folder.holds c.save_if_due.new.folder)
     c.turns.saved c.turns.counter c.in-Err.fault (c.turns.invariant.goes start first going none) c.in-Err.ensures.stays
 
@@ -48,10 +49,11 @@ pub returns-in-Some-clause-turned : goal.returns-in-Some-clause-turned
 returns-in-Some-clause-turned g c = λ start first going none.
     let holds = g.P.Folder.holds c.save_if_due.new.folder in
     let same = c.turns.invariant.options in
-    goes-end c.args.watcher.now.options c.args.saves.file.now (g.P.Folder.holds c.args.folder.now) start first c.args.saves.every
-    c.turns.watcher.options c.turns.watcher c.answer_next.new.replier (g.W.Wire.history c.args.wire.now) (g.W.Wire.history c.turns.wire)
+    goes-end c.args.made.now.watcher.options c.args.saves.file.now (g.P.Folder.holds c.args.folder.now) start first c.args.saves.every
+    c.turns.made.watcher.options c.turns.made.watcher c.answer_next.new.replier.watcher (g.W.Wire.history c.args.wire.now) (g.W.Wire.history c.turns.wire)
     (g.W.Wire.history c.answer_next.new.wire) holds c.in-Ok.now c.turns.counter c.in-Some.end same
-    (goes-saved c.args.watcher.now.options c.args.saves.file.now (g.P.Folder.holds c.args.folder.now) start first c.turns.watcher.options c.turns.watcher
+    (goes-saved c.args.made.now.watcher.options c.args.saves.file.now (g.P.Folder.holds c.args.folder.now) start first c.turns.made.watcher.options
+    c.turns.made.watcher
     (g.W.Wire.history c.args.wire.now) (g.W.Wire.history c.turns.wire) (g.P.Folder.holds c.turns.folder) holds c.turns.saved c.in-Ok.now c.turns.counter same
     (c.turns.invariant.goes start first going none) (c.in-Ok.ensures.holds (g.P.Folder.holds c.args.folder.now)))
     c.in-Ok.ensures.recent (c.in-Some.ensures.turned start) c.in-Some.ensures.unread
@@ -62,11 +64,12 @@ turns-preserved g c =
     let same = c.turns.invariant.options in
     record {
       goes = λ start first going none.
-          goes-on c.args.watcher.now.options c.args.saves.file.now (g.P.Folder.holds c.args.folder.now) start first
-          c.turns.watcher.options c.turns.watcher c.answer_next.new.replier (g.W.Wire.history c.args.wire.now) (g.W.Wire.history c.turns.wire)
+          goes-on c.args.made.now.watcher.options c.args.saves.file.now (g.P.Folder.holds c.args.folder.now) start first
+          c.turns.made.watcher.options c.turns.made.watcher c.answer_next.new.replier.watcher (g.W.Wire.history c.args.wire.now) (g.W.Wire.history c.turns.wire)
           (g.W.Wire.history c.answer_next.new.wire) holds c.in-Ok.now c.turns.counter same
-          (goes-saved c.args.watcher.now.options c.args.saves.file.now (g.P.Folder.holds c.args.folder.now) start first c.turns.watcher.options
-          c.turns.watcher (g.W.Wire.history c.args.wire.now) (g.W.Wire.history c.turns.wire) (g.P.Folder.holds c.turns.folder) holds c.turns.saved c.in-Ok.now
+          (goes-saved c.args.made.now.watcher.options c.args.saves.file.now (g.P.Folder.holds c.args.folder.now) start first c.turns.made.watcher.options
+          c.turns.made.watcher (g.W.Wire.history c.args.wire.now) (g.W.Wire.history c.turns.wire) (g.P.Folder.holds c.turns.folder) holds
+          c.turns.saved c.in-Ok.now
           c.turns.counter same (c.turns.invariant.goes start first going none) (c.in-Ok.ensures.holds (g.P.Folder.holds c.args.folder.now)))
           (c.in-None.ensures.turned start);
       options = c.in-None.ensures.settings ∙ same;
@@ -77,6 +80,7 @@ turns-preserved g c =
 
 pub returns-clause-turned : goal.returns-clause-turned
 returns-clause-turned g c = λ start first going none.
-    goes-exhausted c.args.watcher.now.options c.args.saves.file.now (g.P.Folder.holds c.args.folder.now) start first c.args.saves.every c.turns.watcher
+    goes-exhausted c.args.made.now.watcher.options c.args.saves.file.now (g.P.Folder.holds c.args.folder.now) start first c.args.saves.every
+    c.turns.made.watcher
     (g.W.Wire.history c.args.wire.now) (g.W.Wire.history c.turns.wire) (g.P.Folder.holds c.turns.folder) c.turns.saved c.turns.counter none
     (omega arith) (c.turns.invariant.goes start first going none)

@@ -11,18 +11,18 @@ use Rattle.kc_watch.proofs.Lines.{dropped-put}
 use Rattle.kc_watch.proofs.course.Course.end_open.Goals as goal
 
 pub end_part-requires : goal.end_part-requires
-end_part-requires c =
+end_part-requires g c =
     let (heard, s) = c.requires.stands in
     let none : heard.refusal ≡ None = sym s.gathers.refusal ∙ c.requires.going in
     (heard.told, s.gathers.holds none, s.keeps none)
 
 pub returns-in-None-clause-keeps : goal.returns-in-None-clause-keeps
-returns-in-None-clause-keeps c = on_ok_weaker c.end_part.result (λ keeps heard s.
+returns-in-None-clause-keeps g c = on_ok_weaker c.end_part.result (λ keeps heard s.
     let none : heard.refusal ≡ None = sym s.gathers.refusal ∙ c.requires.going in
     keeps heard.told (s.gathers.holds none) (s.keeps none)) c.end_part.ensures.keeps
 
 pub returns-in-None-clause-put : goal.returns-in-None-clause-put
-returns-in-None-clause-put c =
+returns-in-None-clause-put g c =
     let (put, out, adds) = c.end_part.ensures.put in (
       put,
       out,
@@ -35,13 +35,13 @@ returns-in-None-clause-put c =
     )
 
 pub returns-in-Some-clause-keeps : goal.returns-in-Some-clause-keeps
-returns-in-Some-clause-keeps c = on_ok_weaker c.end_dropped.result (λ keeps heard s.
+returns-in-Some-clause-keeps g c = on_ok_weaker c.end_dropped.result (λ keeps heard s.
     let none : heard.refusal ≡ None = sym s.gathers.refusal ∙ c.requires.going in
     let is : heard.dropped ≡ Some c.in-Some.refusal = sym s.gathers.dropped ∙ sym c.dropped.ensures ∙ c.in-Some.is in
     keeps heard.told (s.gathers.emptied (ap is_some is)) (s.keeps none)) c.end_dropped.ensures.keeps
 
 pub returns-in-Some-clause-put : goal.returns-in-Some-clause-put
-returns-in-Some-clause-put c =
+returns-in-Some-clause-put g c =
     let text : Told → List ℕ = λ told. fact_text c.args.options.format (refused_fact told c.in-Some.refusal) in
     let (put, out, adds) = c.end_dropped.ensures.put in (
       put,

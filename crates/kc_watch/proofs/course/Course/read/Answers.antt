@@ -1,5 +1,5 @@
 -- The next line is read behind the others, and what it is answered is put behind what they are.
-use Rattle.std.proofs.Common.{◌≡◌, ◌++◌, ◌∷◌, [], ℕ, List, ap, ap₂, sym, subst, ◌∙◌, append_assoc, append-nil, map}
+use Rattle.std.proofs.Common.{◌≡◌, ◌++◌, ◌∷◌, [], ℕ, List, ap, ap₂, refl, sym, subst, ◌∙◌, append_assoc, append-nil, map}
 use Rattle.kc_dialogue.specs.Replies.{IsPrefixOf}
 use Rattle.kc_stream.specs.Asking.{stream_line, stream_lines}
 use Rattle.kc_stream.specs.Hearing.{hear_all}
@@ -9,8 +9,11 @@ use Rattle.kc_watch.specs.Watching.{StandsAt}
 use Rattle.kc_watch.proofs.Lines.{answers-more, on-err, read-more, stopped-prefix}
 use Rattle.kc_watch.proofs.course.Course.read.Goals as goal
 
+pub loop-line-init : goal.loop-line-init
+loop-line-init g c = record { parts = ([], refl, λ heard s. s, ([], sym (append-nil c.args.out.now.items), λ heard s. refl)) }
+
 pub loop-line-preserved : goal.loop-line-preserved
-loop-line-preserved c =
+loop-line-preserved g c =
     let (done, is, stands, (put, out, adds)) = c.loop-line.invariant.parts in
     let (more, out', adds') = c.in_ok-take.ensures.put in
     let line : StreamLine = c.read_stream_line.result in
@@ -34,7 +37,7 @@ loop-line-preserved c =
     }
 
 pub returns-in_err-take-clause-put : goal.returns-in_err-take-clause-put
-returns-in_err-take-clause-put c =
+returns-in_err-take-clause-put g c =
     let (done, is, stands, (put, out, adds)) = c.loop-line.invariant.parts in
     let (more, out', adds') = c.in_err-take.ensures.put in
     let line : StreamLine = c.read_stream_line.result in
@@ -50,7 +53,7 @@ returns-in_err-take-clause-put c =
     )
 
 pub returns-clause-put : goal.returns-clause-put
-returns-clause-put c =
+returns-clause-put g c =
     let (done, is, stands, (put, out, adds)) = c.loop-line.invariant.parts in
     let nothing : stream_lines c.loop-line.rest.now ≡ [] = ap (map stream_line) c.in_default.ensures.lines in
     let whole : stream_lines c.args.bytes.now ≡ done = is ∙ ap (λ (t : List StreamLine). done ++ t) nothing ∙ append-nil done in (

@@ -8,7 +8,7 @@ use Rattle.kc_watch.specs.Watching.{StandsAt}
 use Rattle.kc_watch.proofs.course.Course.read.Given as goal
 
 abbrev pub invariant-loop-line : goal.invariant-loop-line
-invariant-loop-line l = record {
+invariant-loop-line g l = record {
   parts : (done : List StreamLine) × (stream_lines l.fn.bytes ≡ done ++ stream_lines l.rest)
       × ((heard : Heard) → StandsAt l.fn.self heard → StandsAt l.self (hear_all l.options.bad_lines heard done))
       × ((put : List ℕ) × (l.out.items ≡ l.fn.out.items ++ put)
@@ -16,4 +16,4 @@ invariant-loop-line l = record {
 }
 
 abbrev pub decreases-loop-line : goal.decreases-loop-line
-decreases-loop-line l = length l.rest
+decreases-loop-line g l = length l.rest

@@ -10,7 +10,7 @@ use Rattle.kc_watch.proofs.Lines.{refused-put}
 use Rattle.kc_watch.proofs.course.Course.take.Goals as goal
 
 pub returns-then-is_some-clause-put : goal.returns-then-is_some-clause-put
-returns-then-is_some-clause-put c =
+returns-then-is_some-clause-put g c =
     let some : is_some c.args.self.now.gathered.refusal ≡ true = grind (arith, c.refusal.ensures, c.is_some.ensures, c.if-is_some.true) in (
       [],
       sym (append-nil c.args.out.now.items),
@@ -18,25 +18,25 @@ returns-then-is_some-clause-put c =
     )
 
 pub returns-in-Tells-clause-stands : goal.returns-in-Tells-clause-stands
-returns-in-Tells-clause-stands c =
+returns-in-Tells-clause-stands g c =
     subst (λ (l : StreamLine). OnOk c.take_told.result ((heard : Heard) → StandsAt c.args.self.now heard
     → StandsAt c.take_told.new.self (hear c.args.options.bad_lines heard l)))
     (sym c.in-Tells.is) c.take_told.ensures.stands
 
 pub returns-in-Tells-clause-put : goal.returns-in-Tells-clause-put
-returns-in-Tells-clause-put c =
+returns-in-Tells-clause-put g c =
     subst (λ (l : StreamLine). (put : List ℕ) × (c.take_told.new.out.items ≡ c.args.out.now.items ++ put) × ((heard : Heard) → StandsAt c.args.self.now heard
     → OnOk c.take_told.result (put ≡ answer_behind c.args.options heard l)
     × OnErr c.take_told.result (IsPrefixOf (answer_behind c.args.options heard l) put)))
     (sym c.in-Tells.is) c.take_told.ensures.put
 
 pub returns-in-Asks-clause-stands : goal.returns-in-Asks-clause-stands
-returns-in-Asks-clause-stands c =
+returns-in-Asks-clause-stands g c =
     subst (λ (l : StreamLine). OnOk c.take_question.result ((heard : Heard) → StandsAt c.args.self.now heard
     → StandsAt c.take_question.new.self (hear c.args.options.bad_lines heard l))) (sym c.in-Asks.is) c.take_question.ensures.stands
 
 pub returns-in-Asks-clause-put : goal.returns-in-Asks-clause-put
-returns-in-Asks-clause-put c =
+returns-in-Asks-clause-put g c =
     subst (λ (l : StreamLine). (put : List ℕ) × (c.take_question.new.out.items ≡ c.args.out.now.items ++ put)
     × ((heard : Heard) → StandsAt c.args.self.now heard
     → OnOk c.take_question.result (put ≡ answer_behind c.args.options heard l)

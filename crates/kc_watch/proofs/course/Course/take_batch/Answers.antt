@@ -14,7 +14,7 @@ use Rattle.kc_watch.proofs.Lines.{batch-answer, on-both, on-err, prefix-same}
 use Rattle.kc_watch.proofs.course.Course.take_batch.Goals as goal
 
 pub returns-in_err-end_open-clause-put : goal.returns-in_err-end_open-clause-put
-returns-in_err-end_open-clause-put c =
+returns-in_err-end_open-clause-put g c =
     let (put, out, adds) = c.in_err-end_open.ensures.put in (
       put,
       out,
@@ -26,7 +26,7 @@ returns-in_err-end_open-clause-put c =
     )
 
 pub returns-clause-stands : goal.returns-clause-stands
-returns-clause-stands c =
+returns-clause-stands g c =
     on_ok_weaker c.take.result (λ g heard s. record {
       gathers = g heard (subst (λ (x : Gathered). Gathers x heard) (sym c.in_ok-end_open.ensures.gathered) s.gathers);
       keeps = λ _. subst (λ (h : Heard). KeepsAccount c.end_open.new.self.kept c.end_open.new.self.ended h.told)
@@ -34,7 +34,7 @@ returns-clause-stands c =
     }) c.take.ensures
 
 pub returns-clause-put : goal.returns-clause-put
-returns-clause-put c =
+returns-clause-put g c =
     let (put, out, adds) = c.in_ok-end_open.ensures.put in (
       put,
       out,

@@ -12,19 +12,19 @@ use Rattle.kc_watch.proofs.Lines.{on-both, other-behind, other-stands, prefix-no
 use Rattle.kc_watch.proofs.course.Course.take_told.Goals as goal
 
 pub returns-in-Batch-clause-stands : goal.returns-in-Batch-clause-stands
-returns-in-Batch-clause-stands c =
+returns-in-Batch-clause-stands g c =
     subst (λ (l : TextLine). OnOk c.take_batch.result ((heard : Heard) → StandsAt c.args.self.now heard
     → StandsAt c.take_batch.new.self (hear c.args.options.bad_lines heard (Tells l)))) (sym c.in-Batch.is) c.take_batch.ensures.stands
 
 pub returns-in-Batch-clause-put : goal.returns-in-Batch-clause-put
-returns-in-Batch-clause-put c =
+returns-in-Batch-clause-put g c =
     subst (λ (l : TextLine). (put : List ℕ) × (c.take_batch.new.out.items ≡ c.args.out.now.items ++ put) × ((heard : Heard) → StandsAt c.args.self.now heard
     → OnOk c.take_batch.result (put ≡ answer_behind c.args.options heard (Tells l))
     × OnErr c.take_batch.result (IsPrefixOf (answer_behind c.args.options heard (Tells l)) put)))
     (sym c.in-Batch.is) c.take_batch.ensures.put
 
 pub returns-in_default : goal.returns-in_default
-returns-in_default c = record {
+returns-in_default g c = record {
   stands = on_ok_weaker c.take.result
       (λ g heard s. other-stands c.args.self.now _ c.args.options.bad_lines c.args.told c.in_default.not-Batch c.requires.going (λ told k. k) heard s
       (g heard s.gathers)) c.take.ensures;

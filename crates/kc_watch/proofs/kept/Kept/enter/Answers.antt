@@ -12,7 +12,7 @@ use Rattle.kc_watch.proofs.Changing.{moves-from}
 use Rattle.kc_watch.proofs.kept.Kept.enter.Goals as goal
 
 pub returns-clause-graph : goal.returns-clause-graph
-returns-clause-graph c =
+returns-clause-graph g c =
     let g : SimpleGraph = c.args.self.now.keeper.graph in
     let grown : c.grow_to.new.self.graph ≡ with_vertices (length c.args.gathered.now.ids) g =
     c.in_ok-grow_to.ensures.graph ∙ ap (λ (n : ℕ). with_vertices n g) (c.count.ensures.count ∙ ap length c.ids.ensures) in
@@ -20,7 +20,7 @@ returns-clause-graph c =
     (λ e. e ∙ ap₂ (λ (h : SimpleGraph) (us : List Update). graph_after_batch h (last_batch us).updates) grown c.updates.ensures) c.make.ensures.graph
 
 pub returns-clause-effects : goal.returns-clause-effects
-returns-clause-effects c =
+returns-clause-effects g c =
     let g : SimpleGraph = c.args.self.now.keeper.graph in
     let grown : c.grow_to.new.self.graph ≡ with_vertices (length c.args.gathered.now.ids) g =
     c.in_ok-grow_to.ensures.graph ∙ ap (λ (n : ℕ). with_vertices n g) (c.count.ensures.count ∙ ap length c.ids.ensures) in
@@ -32,7 +32,7 @@ returns-clause-effects c =
     record { added_is = e.added_is; removed_is = e.removed_is; kept_is = e.kept_is; overruled_is = e.overruled_is }) c.make.ensures.effects
 
 pub returns-clause-moves : goal.returns-clause-moves
-returns-clause-moves c =
+returns-clause-moves g c =
     let g : SimpleGraph = c.args.self.now.keeper.graph in
     on_ok_weaker c.make.result
     (λ e. moves-from g.size (core_numbers_of g) (core_numbers_of c.grow_to.new.self.graph) (core_numbers_of c.make.new.self.graph)

@@ -14,26 +14,26 @@ use Rattle.kc_watch.proofs.Spare.{changes-same, room, spare-numbers}
 use Rattle.kc_watch.proofs.roomy.RoomyKeeper.make.Goals as goal
 
 pub make-requires : goal.make-requires
-make-requires c =
+make-requires g c =
     let size : c.self.inside.vertices ≡ c.args.self.now.graph.size = ap (λ (k : LayeredGraph). k.graph.size) c.self.view_is in
     λ i d low. omega (arith, c.requires i d low, size, c.self.invariant.fits)
 
 pub invariant_of-self : goal.invariant_of-self
-invariant_of-self c =
+invariant_of-self g c =
     let n : ℕ = c.self.inside.vertices in
     let size : n ≡ c.args.self.now.graph.size = ap (λ (k : LayeredGraph). k.graph.size) c.self.view_is in
     room c.make.new.keeper.graph n (omega (arith, c.make.ensures.size, c.self.invariant.fits))
     (c.make.ensures.edges n (subst (λ (m : ℕ). All (IsUpdateBelow m) c.args.updates.now) (sym size) c.requires) c.self.invariant.edges)
 
 pub returns-clause-graph : goal.returns-clause-graph
-returns-clause-graph c =
+returns-clause-graph g c =
     let graph : with_vertices c.self.inside.vertices c.self.inside.keeper.graph ≡ c.args.self.now.graph = ap (λ (k : LayeredGraph). k.graph) c.self.view_is in
     on_ok_weaker c.make.result
     (λ e. ap (with_vertices c.self.inside.vertices) e
     ∙ ap (λ (g : SimpleGraph). graph_after_batch g (last_batch c.args.updates.now).updates) graph) c.make.ensures.graph
 
 pub returns-clause-effects : goal.returns-clause-effects
-returns-clause-effects c =
+returns-clause-effects g c =
     let g : SimpleGraph = c.self.inside.keeper.graph in
     let graph : with_vertices c.self.inside.vertices g ≡ c.args.self.now.graph = ap (λ (k : LayeredGraph). k.graph) c.self.view_is in
     IfOk-weaker c.make.result (λ effects. AreEffects g (last_batch c.args.updates.now) effects)
@@ -44,7 +44,7 @@ returns-clause-effects c =
     subst (λ (h : SimpleGraph). AreEffects h (last_batch c.args.updates.now) effects) graph first) c.make.ensures.effects
 
 pub returns-clause-cores : goal.returns-clause-cores
-returns-clause-cores c =
+returns-clause-cores g c =
     let n : ℕ = c.self.inside.vertices in
     let g : SimpleGraph = c.self.inside.keeper.graph in
     let new : SimpleGraph = c.make.new.keeper.graph in

@@ -7,14 +7,14 @@ use Rattle.kc_watch.proofs.Lines.{on-err, prefix-none}
 use Rattle.kc_watch.proofs.watcher.Watcher.read_ended.Goals as goal
 
 pub returns-then-is_empty-clause-put : goal.returns-then-is_empty-clause-put
-returns-then-is_empty-clause-put c = (
+returns-then-is_empty-clause-put g c = (
   [],
   sym (append-nil c.args.out.now.items),
   λ fed f. (none-reply c.args.self.now.options fed c.args.whole.now (eqb-true (length c.args.whole.now) 0 (sym c.if-is_empty.ensures)), tt),
 )
 
 pub returns-then-is_empty-2-clause-fed : goal.returns-then-is_empty-2-clause-fed
-returns-then-is_empty-2-clause-fed c =
+returns-then-is_empty-2-clause-fed g c =
     let n = eqb-false (length c.args.whole.now) 0 (sym c.if-is_empty.ensures) in
     let some : 0 < length c.args.whole.now = omega (arith, n) in
     let z = eqb-true _ 0 (sym c.if-is_empty-2.ensures) in
@@ -24,7 +24,7 @@ returns-then-is_empty-2-clause-fed c =
     (sym (ap (λ (t : List ℕ). t ++ c.args.whole.now) empty)) _ st refl empty) c.read.ensures.stands
 
 pub returns-then-is_empty-2-clause-put : goal.returns-then-is_empty-2-clause-put
-returns-then-is_empty-2-clause-put c =
+returns-then-is_empty-2-clause-put g c =
     let n = eqb-false (length c.args.whole.now) 0 (sym c.if-is_empty.ensures) in
     let some : 0 < length c.args.whole.now = omega (arith, n) in
     let z = eqb-true _ 0 (sym c.if-is_empty-2.ensures) in
@@ -37,7 +37,7 @@ returns-then-is_empty-2-clause-put c =
     )
 
 pub returns-in_err-extend_from_slice-clause-put : goal.returns-in_err-extend_from_slice-clause-put
-returns-in_err-extend_from_slice-clause-put c =
+returns-in_err-extend_from_slice-clause-put g c =
     let n = eqb-false (length c.args.whole.now) 0 (sym c.if-is_empty.ensures) in
     let some : 0 < length c.args.whole.now = omega (arith, n) in (
       [],
@@ -48,7 +48,7 @@ returns-in_err-extend_from_slice-clause-put c =
     )
 
 pub returns-in_err-read-clause-put : goal.returns-in_err-read-clause-put
-returns-in_err-read-clause-put c =
+returns-in_err-read-clause-put g c =
     let n = eqb-false (length c.args.whole.now) 0 (sym c.if-is_empty.ensures) in
     let some : 0 < length c.args.whole.now = omega (arith, n) in
     let is : c.deref.result.now ≡ c.args.self.now.begun.items ++ c.args.whole.now = c.deref.ensures.value ∙ c.in_ok-extend_from_slice.ensures.items in
@@ -61,7 +61,7 @@ returns-in_err-read-clause-put c =
     )
 
 pub returns-clause-fed : goal.returns-clause-fed
-returns-clause-fed c =
+returns-clause-fed g c =
     let n = eqb-false (length c.args.whole.now) 0 (sym c.if-is_empty.ensures) in
     let some : 0 < length c.args.whole.now = omega (arith, n) in
     let is : c.deref.result.now ≡ c.args.self.now.begun.items ++ c.args.whole.now = c.deref.ensures.value ∙ c.in_ok-extend_from_slice.ensures.items in
@@ -69,7 +69,7 @@ returns-clause-fed c =
     c.clear.ensures.items
 
 pub returns-clause-put : goal.returns-clause-put
-returns-clause-put c =
+returns-clause-put g c =
     let n = eqb-false (length c.args.whole.now) 0 (sym c.if-is_empty.ensures) in
     let some : 0 < length c.args.whole.now = omega (arith, n) in
     let is : c.deref.result.now ≡ c.args.self.now.begun.items ++ c.args.whole.now = c.deref.ensures.value ∙ c.in_ok-extend_from_slice.ensures.items in

@@ -7,10 +7,10 @@ use Rattle.std.proofs.lemmas.Bool.{true≢false}
 use Rattle.std.proofs.lemmas.Result.{on_ok_weaker}
 use Rattle.kc_watch.proofs.Lines.{on-err}
 use Rattle.kc_lists.proofs.Results.{none-from}
-use Rattle.kc_watch.proofs.watcher.WatcherReplier.end.Goals as goal
+use Rattle.kc_watch.proofs.watcher.Watcher.end_by.Goals as goal
 
 pub returns-then-is_some : goal.returns-then-is_some
-returns-then-is_some c =
+returns-then-is_some g c =
     let some : is_some c.args.self.now.course.gathered.refusal ≡ true = grind (arith, c.refusal.ensures, c.is_some.ensures, c.if-is_some.true) in
     record {
       settings = refl;
@@ -27,7 +27,7 @@ returns-then-is_some c =
     }
 
 pub returns-in_err-read : goal.returns-in_err-read
-returns-in_err-read c =
+returns-in_err-read g c =
     let going : is_some c.args.self.now.course.gathered.refusal ≡ false = grind (arith, c.refusal.ensures, c.is_some.ensures, c.if-is_some.false) in
     let (put, out, adds) = c.in_err-read.ensures.put in
     record {
@@ -43,7 +43,7 @@ returns-in_err-read c =
     }
 
 pub returns-then-is_some-2 : goal.returns-then-is_some-2
-returns-then-is_some-2 c =
+returns-then-is_some-2 g c =
     let going : is_some c.args.self.now.course.gathered.refusal ≡ false = grind (arith, c.refusal.ensures, c.is_some.ensures, c.if-is_some.false) in
     let some : is_some c.read.new.self.gathered.refusal ≡ true = grind (arith, c.refusal-2.ensures, c.is_some-2.ensures, c.if-is_some-2.true) in
     let (put, out, adds) = c.in_ok-read.ensures.put in
@@ -66,17 +66,17 @@ returns-then-is_some-2 c =
     }
 
 pub end_open-requires-clause-going : goal.end_open-requires-clause-going
-end_open-requires-clause-going c =
+end_open-requires-clause-going g c =
     let going : is_some c.read.new.self.gathered.refusal ≡ false = grind (arith, c.refusal-2.ensures, c.is_some-2.ensures, c.if-is_some-2.false) in
     none-from _ going
 
 pub end_open-requires-clause-stands : goal.end_open-requires-clause-stands
-end_open-requires-clause-stands c =
+end_open-requires-clause-stands g c =
     let (fed, f) = c.requires in
     (_, c.in_ok-read.ensures.stands (heard_by c.args.self.now fed f) f.stands)
 
 pub returns : goal.returns
-returns c =
+returns g c =
     let before : is_some c.args.self.now.course.gathered.refusal ≡ false = grind (arith, c.refusal.ensures, c.is_some.ensures, c.if-is_some.false) in
     let going : is_some c.read.new.self.gathered.refusal ≡ false = grind (arith, c.refusal-2.ensures, c.is_some-2.ensures, c.if-is_some-2.false) in
     let (put, out, adds) = c.in_ok-read.ensures.put in

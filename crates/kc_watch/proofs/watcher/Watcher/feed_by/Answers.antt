@@ -11,10 +11,10 @@ use Rattle.kc_watch.specs.Watching.{WasFed}
 use Rattle.kc_watch.specs.declared.options.WatchOptions.{WatchOptions}
 use Rattle.kc_watch.proofs.Fed.{fed-open, fed-refused, more-reply, open-reply, refused-open, stays}
 use Rattle.kc_watch.proofs.Lines.{on-err, prefix-same}
-use Rattle.kc_watch.proofs.watcher.WatcherReplier.feed.Goals as goal
+use Rattle.kc_watch.proofs.watcher.Watcher.feed_by.Goals as goal
 
 pub returns-then-is_some-clause-put : goal.returns-then-is_some-clause-put
-returns-then-is_some-clause-put c =
+returns-then-is_some-clause-put g c =
     let some : is_some c.args.self.now.course.gathered.refusal ≡ true = grind (arith, c.refusal.ensures, c.is_some.ensures, c.if-is_some.true) in (
       [],
       sym (append-nil c.args.out.now.items),
@@ -26,12 +26,12 @@ returns-then-is_some-clause-put c =
     )
 
 pub returns-then-is_some-clause-ended : goal.returns-then-is_some-clause-ended
-returns-then-is_some-clause-ended c = λ _ fed f.
+returns-then-is_some-clause-ended g c = λ _ fed f.
     let some : is_some c.args.self.now.course.gathered.refusal ≡ true = grind (arith, c.refusal.ensures, c.is_some.ensures, c.if-is_some.true) in
     stays c.args.self.now (fed ++ c.args.piece.now) (fed-refused c.args.self.now fed f c.args.piece.now some) some
 
 pub returns-in_err-read_ended-clause-put : goal.returns-in_err-read_ended-clause-put
-returns-in_err-read_ended-clause-put c =
+returns-in_err-read_ended-clause-put g c =
     let going : is_some c.args.self.now.course.gathered.refusal ≡ false = grind (arith, c.refusal.ensures, c.is_some.ensures, c.if-is_some.false) in
     let whole : List ℕ = c.split_at.result.0.now in
     let rest : List ℕ = c.split_at.result.1.now in
@@ -51,7 +51,7 @@ returns-in_err-read_ended-clause-put c =
     )
 
 pub returns-in_err-extend_from_slice-clause-put : goal.returns-in_err-extend_from_slice-clause-put
-returns-in_err-extend_from_slice-clause-put c =
+returns-in_err-extend_from_slice-clause-put g c =
     let going : is_some c.args.self.now.course.gathered.refusal ≡ false = grind (arith, c.refusal.ensures, c.is_some.ensures, c.if-is_some.false) in
     let whole : List ℕ = c.split_at.result.0.now in
     let rest : List ℕ = c.split_at.result.1.now in
@@ -71,7 +71,7 @@ returns-in_err-extend_from_slice-clause-put c =
     )
 
 pub returns-clause-fed : goal.returns-clause-fed
-returns-clause-fed c = λ fed f.
+returns-clause-fed g c = λ fed f.
     let whole : List ℕ = c.split_at.result.0.now in
     let rest : List ℕ = c.split_at.result.1.now in
     let parts : whole ++ rest ≡ c.args.piece.now = ap₂ (λ (x y : List ℕ). x ++ y) c.split_at.ensures.front c.split_at.ensures.back
@@ -81,7 +81,7 @@ returns-clause-fed c = λ fed f.
     (fed-open c.read_ended.new.self (fed ++ whole) (c.in_ok-read_ended.ensures.fed fed f) _ rest o refl refl c.in_ok-extend_from_slice.ensures.items)
 
 pub returns-clause-put : goal.returns-clause-put
-returns-clause-put c =
+returns-clause-put g c =
     let going : is_some c.args.self.now.course.gathered.refusal ≡ false = grind (arith, c.refusal.ensures, c.is_some.ensures, c.if-is_some.false) in
     let whole : List ℕ = c.split_at.result.0.now in
     let rest : List ℕ = c.split_at.result.1.now in
@@ -100,6 +100,6 @@ returns-clause-put c =
     )
 
 pub returns-clause-ended : goal.returns-clause-ended
-returns-clause-ended c = λ e fed f.
+returns-clause-ended g c = λ e fed f.
     subst (λ (o : WatchOptions). StaysFrom (reply o) (reply_at_end o) (fed ++ c.args.piece.now)) c.in_ok-read_ended.ensures.same
-    (stays _ (fed ++ c.args.piece.now) (returns-clause-fed c fed f) (c.flow.ensures e))
+    (stays _ (fed ++ c.args.piece.now) (returns-clause-fed g c fed f) (c.flow.ensures e))
