@@ -19,6 +19,7 @@ import tempfile
 import time
 
 TOP = pathlib.Path(__file__).resolve().parent.parent
+OTHER_VERSION = "the state is of another version of the format, or its line ends were changed"
 BEGUN = "a file of this name with .part behind it is there, of a run that goes on or was cut off; remove it if no run goes on"
 MEND = "load a state as --save wrote it, or begin with edges by --from"
 
@@ -103,8 +104,9 @@ CASES = (
     ("an empty state", EMPTY, ("--load", "{}"), b"batch\n", 0, b"", None, None),
     ("edges behind a state", TRIANGLE, ("--load", "{}"), b"9 5\nbatch\n", 0, b"", None, None),
     ("a state that was cut", TRIANGLE[:40], ("--load", "{}", *SAVES), STREAM, 3, refused(4, "the state is cut off here"), b"", None),
-    ("no state", b"1 2\n", ("--load", "{}"), STREAM, 3, refused(1, "this is not the first line of a kept state"), b"", None),
-    ("another version", TRIANGLE.replace(b"state 1", b"state 2"), ("--load", "{}"), STREAM, 3, refused(1, "the state is of another version of the format"), b"", None),
+    ("no state", b"1 2\n", ("--load", "{}"), STREAM, 3, refused(1, "this is not the first line of a saved state"), b"", None),
+    ("another version", TRIANGLE.replace(b"state 1", b"state 2"), ("--load", "{}"), STREAM, 3, refused(1, OTHER_VERSION), b"", None),
+    ("line ends of Windows", TRIANGLE.replace(b"\n", b"\r\n"), ("--load", "{}"), STREAM, 3, refused(1, OTHER_VERSION), b"", None),
     ("another edge", TRIANGLE.replace(b"8 9\n", b"5 9\n"), ("--load", "{}"), STREAM, 3, refused(12, "the edge does not ascend"), b"", None),
     ("another count of batches", TRIANGLE.replace(b"batches 3", b"batches 4"), ("--load", "{}"), STREAM, 3,
      refused(13, "the check sum is not that of the lines before it"), b"", None),

@@ -1,9 +1,11 @@
 //! A watcher is fed the graph of a state.
-ghost use Rattle.std.specs.Prelude.{◌≡◌, [], IfOk};
+ghost use Rattle.std.specs.Prelude.{◌≡◌, Err, [], IfOk};
 ghost use Rattle.kc_dialogue.specs.Openings.{HasOpened};
 ghost use Rattle.kc_state.specs.Reading.{IsStateText, parts_of_state};
 ghost use Rattle.kc_state.specs.Starts.{start_text};
 ghost use Rattle.kc_state.specs.Texts.{KeptParts};
+ghost use Rattle.kc_state.specs.declared.fault.ReadFault.TheVariants as fault;
+ghost use Rattle.kc_state.specs.declared.fault.StateFault.{StateFault};
 ghost use Rattle.kc_watch.specs.Text.{reply, reply_at_end};
 ghost use Rattle.kc_watch.specs.Watching.{WasFed};
 
@@ -45,6 +47,7 @@ pub fn open_state(alloc: Global, text: Vec<u8>, watcher: &mut Watcher) -> Result
         × HasOpened (reply watcher.new.options) (reply_at_end watcher.new.options) (WasFed watcher.new) (start_text state) opening.flow
         opening.text.items) }
     ensures options { watcher.new.options ≡ watcher.old.options }
+    ensures stays { (is : StateFault) → result ≡ Err (fault.Faulty is) → watcher.new ≡ watcher.old }
 {
     let start = start_of(alloc, text)?;
     Ok(feed_start(alloc, &start, watcher)?)

@@ -5,8 +5,8 @@ use Rattle.kc_state.specs.declared.fault.StateKind.TheVariants as kind
 
 -- what is wrong with a line
 abbrev pub state_sentence : StateKind → List ℕ
-state_sentence kind.NotAState = codes "this is not the first line of a kept state"
-state_sentence kind.OtherVersion = codes "the state is of another version of the format"
+state_sentence kind.NotAState = codes "this is not the first line of a saved state"
+state_sentence kind.OtherVersion = codes "the state is of another version of the format, or its line ends were changed"
 state_sentence kind.NotACount = codes "a count is missing here: a word and a number"
 state_sentence kind.TooManyVertices = codes "there are more than 16,777,216 vertices"
 state_sentence kind.NotAVertex = codes "the line of a vertex is missing here: ID CORE PLACE"

@@ -10,7 +10,7 @@ use crate::NoMemory;
 pub enum StateKind {
     /// The first line is not that of a state.
     NotAState,
-    /// The first line is that of a state, in another version of the format.
+    /// The first line begins as that of a state: it is of another version of the format, or a carriage return stands at its end.
     OtherVersion,
     /// The line does not tell the count that is to stand there.
     NotACount,
@@ -50,8 +50,10 @@ impl StateKind {
         ensures { result.now ≡ state_sentence self }
     {
         match self {
-            StateKind::NotAState => "this is not the first line of a kept state",
-            StateKind::OtherVersion => "the state is of another version of the format",
+            StateKind::NotAState => "this is not the first line of a saved state",
+            StateKind::OtherVersion => {
+                "the state is of another version of the format, or its line ends were changed"
+            }
             StateKind::NotACount => "a count is missing here: a word and a number",
             StateKind::TooManyVertices => "there are more than 16,777,216 vertices",
             StateKind::NotAVertex => "the line of a vertex is missing here: ID CORE PLACE",
