@@ -5,86 +5,50 @@ use kc_cert::{check, local_check};
 use kc_graph::{Graph, Lawful, Moves, Plan, Update, Used, decompose_owned};
 use std::process::Abort;
 
+/// What is wrong with core numbers and an order of a graph, these, and whether they pass.
+type Claim = (&'static str, &'static [u32], &'static [u32], bool);
+
 /// Core numbers and an order pass the check of a graph, or do not.
-fn assert_checked<R: Abort + AllocGlobal>(
-    rt: &R,
-    graph: &Graph,
-    what: &str,
-    core: &[u32],
-    order: &[u32],
-    wanted: bool,
-) {
+fn assert_checked<R: Abort + AllocGlobal>(rt: &R, graph: &Graph, claim: &Claim) {
+    let (what, core, order, wanted) = *claim;
     let passes = check(rt.alloc(), graph, core, order).expect(rt, "no memory");
     assert_eq!(rt; passes, wanted, "{what}");
 }
 
 /// Just one of these is a certificate of a triangle.
-fn assert_triangle<R: Abort + AllocGlobal>(rt: &R, graph: &Graph) {
-    assert_checked(rt, graph, "its certificate", &[2, 2, 2], &[0, 1, 2], true);
-    assert_checked(
-        rt,
-        graph,
-        "too many later neighbours",
-        &[1, 1, 1],
-        &[0, 1, 2],
-        false,
-    );
-    assert_checked(
-        rt,
-        graph,
-        "too high for the support",
-        &[3, 3, 3],
-        &[0, 1, 2],
-        false,
-    );
-    assert_checked(rt, graph, "a number too few", &[2, 2], &[0, 1, 2], false);
-    assert_checked(
-        rt,
-        graph,
-        "a number too many",
-        &[2, 2, 2, 2],
-        &[0, 1, 2],
-        false,
-    );
-    assert_checked(rt, graph, "a vertex too few", &[2, 2, 2], &[0, 1], false);
-    assert_checked(rt, graph, "a vertex twice", &[2, 2, 2], &[0, 1, 1], false);
-    assert_checked(
-        rt,
-        graph,
-        "no vertex of the graph",
-        &[2, 2, 2],
-        &[0, 1, 3],
-        false,
-    );
-}
+const TRIANGLE: [Claim; 8] = [
+    ("its certificate", &[2, 2, 2], &[0, 1, 2], true),
+    ("too many later neighbours", &[1, 1, 1], &[0, 1, 2], false),
+    ("too high for the support", &[3, 3, 3], &[0, 1, 2], false),
+    ("a number too few", &[2, 2], &[0, 1, 2], false),
+    ("a number too many", &[2, 2, 2, 2], &[0, 1, 2], false),
+    ("a vertex too few", &[2, 2, 2], &[0, 1], false),
+    ("a vertex twice", &[2, 2, 2], &[0, 1, 1], false),
+    ("no vertex of the graph", &[2, 2, 2], &[0, 1, 3], false),
+];
 
 #[test]
 fn a_triangle(rt: HostRuntime) {
     let graph = Graph::from_pairs(rt.alloc(), 3, &[(0, 1), (0, 2), (1, 2)]);
     let graph = graph.expect(&rt, "no memory");
-    assert_triangle(&rt, &graph);
+    for claim in &TRIANGLE {
+        assert_checked(&rt, &graph, claim);
+    }
 }
+
+/// The tail has to stand before the triangle.
+const TAILED: [Claim; 2] = [
+    ("its certificate", &[2, 2, 2, 1], &[3, 0, 1, 2], true),
+    ("the numbers fall", &[2, 2, 2, 1], &[0, 1, 2, 3], false),
+];
 
 #[test]
 fn a_triangle_with_a_tail(rt: HostRuntime) {
     let graph = Graph::from_pairs(rt.alloc(), 4, &[(0, 1), (0, 2), (1, 2), (2, 3)]);
     let graph = graph.expect(&rt, "no memory");
-    assert_checked(
-        &rt,
-        &graph,
-        "its certificate",
-        &[2, 2, 2, 1],
-        &[3, 0, 1, 2],
-        true,
-    );
-    assert_checked(
-        &rt,
-        &graph,
-        "the numbers fall",
-        &[2, 2, 2, 1],
-        &[0, 1, 2, 3],
-        false,
-    );
+    for claim in &TAILED {
+        assert_checked(&rt, &graph, claim);
+    }
 }
 
 /// A graph of four vertices of core number 1.
@@ -150,47 +114,35 @@ fn assert_passes<R: Abort + AllocGlobal>(
     assert_eq!(rt; passes, wanted, "{what}");
 }
 
+/// How these vertices rise, from which level, and whether they may.
+type Rise = (&'static str, u32, &'static [u32], bool);
+
 /// These vertices rise from this level where an edge between 0 and 2 comes, or do not.
-fn assert_rise<R: Abort + AllocGlobal>(
-    rt: &R,
-    state: &Lawful,
-    what: &str,
-    level: u32,
-    risers: &[u32],
-    wanted: bool,
-) {
+fn assert_rise<R: Abort + AllocGlobal>(rt: &R, state: &Lawful, risers: &Rise) {
+    let (what, level, risers, wanted) = *risers;
     let moves = rise(rt, level, risers, &[]);
     assert_passes(rt, state, (true, 0, 2), moves, wanted, what);
 }
 
-/// Just these rises of a path pass where an edge between 0 and 2 makes it a triangle.
-fn assert_path_rises<R: Abort + AllocGlobal>(rt: &R, state: &Lawful) {
-    assert_rise(rt, state, "its vertices rise", 1, &[0, 1, 2], true);
-    assert_rise(rt, state, "in any order", 1, &[2, 0, 1], true);
-    assert_rise(rt, state, "none rises", 1, &[], false);
-    assert_rise(rt, state, "two rise alone", 1, &[0, 2], false);
-    assert_rise(rt, state, "one rises twice", 1, &[0, 1, 2, 0], false);
-    assert_rise(
-        rt,
-        state,
-        "they have another level",
-        u32::MAX,
-        &[0, 1, 2],
-        false,
-    );
-    assert_passes(
-        rt,
-        state,
-        (true, 0, 2),
-        Moves::Kept,
-        false,
-        "it is not there",
-    );
+/// Just two of these rises of a path pass where an edge between 0 and 2 makes it a triangle.
+const PATH_RISES: [Rise; 6] = [
+    ("its vertices rise", 1, &[0, 1, 2], true),
+    ("in any order", 1, &[2, 0, 1], true),
+    ("none rises", 1, &[], false),
+    ("two rise alone", 1, &[0, 2], false),
+    ("one rises twice", 1, &[0, 1, 2, 0], false),
+    ("they have another level", u32::MAX, &[0, 1, 2], false),
+];
+
+/// Nothing is kept where a path gets an edge, and none comes at a vertex that is not there.
+fn assert_no_rise<R: Abort + AllocGlobal>(rt: &R, state: &Lawful) {
+    let (kept, plain) = (Moves::Kept, Moves::Plain);
+    assert_passes(rt, state, (true, 0, 2), kept, false, "it is not there");
     assert_passes(
         rt,
         state,
         (true, 0, 4),
-        Moves::Plain,
+        plain,
         false,
         "no vertex of the graph",
     );
@@ -199,134 +151,90 @@ fn assert_path_rises<R: Abort + AllocGlobal>(rt: &R, state: &Lawful) {
 #[test]
 fn an_edge_that_makes_a_path_a_triangle(rt: HostRuntime) {
     let state = of_level_1(&rt, &[(0, 1), (1, 2), (2, 3)]);
-    assert_path_rises(&rt, &state);
+    for risers in &PATH_RISES {
+        assert_rise(&rt, &state, risers);
+    }
+    assert_no_rise(&rt, &state);
 }
 
+/// How vertices are put behind others, which, and whether they may be.
+type Shift = (&'static str, &'static [(u32, u32)], bool);
+
 /// Vertices of level 1 are put behind others where an edge between 0 and 2 comes, or are not.
-fn assert_shift<R: Abort + AllocGlobal>(
-    rt: &R,
-    state: &Lawful,
-    what: &str,
-    shifts: &[(u32, u32)],
-    wanted: bool,
-) {
+fn assert_shift<R: Abort + AllocGlobal>(rt: &R, state: &Lawful, shift: &Shift) {
+    let (what, shifts, wanted) = *shift;
     let moves = rise(rt, 1, &[], shifts);
     assert_passes(rt, state, (true, 0, 2), moves, wanted, what);
 }
 
-/// Just these shifts pass where an edge between 0 and 2 joins two edges.
-fn assert_shifts<R: Abort + AllocGlobal>(rt: &R, state: &Lawful) {
-    assert_shift(
-        rt,
-        state,
-        "the first vertex has two later neighbours",
-        &[],
-        false,
-    );
-    assert_shift(rt, state, "or one", &[(0, 1)], true);
-    assert_shift(rt, state, "a chain", &[(0, 1), (2, 0)], true);
-    assert_shift(
-        rt,
-        state,
-        "the last one put stands first",
-        &[(0, 1), (2, 1)],
-        false,
-    );
-    assert_shift(
-        rt,
-        state,
+/// Just three of these shifts pass where an edge between 0 and 2 joins two edges.
+const SHIFTS: [Shift; 9] = [
+    ("the first vertex has two later neighbours", &[], false),
+    ("or one", &[(0, 1)], true),
+    ("a chain", &[(0, 1), (2, 0)], true),
+    ("the last one put stands first", &[(0, 1), (2, 1)], false),
+    (
         "behind one that moved before",
         &[(2, 1), (3, 2), (0, 1)],
         true,
-    );
-    assert_shift(
-        rt,
-        state,
+    ),
+    (
         "behind one that moves later",
         &[(3, 2), (2, 1), (0, 1)],
         false,
-    );
-    assert_shift(rt, state, "behind itself", &[(0, 0)], false);
-    assert_shift(rt, state, "twice", &[(0, 1), (0, 1)], false);
-    assert_shift(rt, state, "behind no vertex", &[(0, 4)], false);
-}
+    ),
+    ("behind itself", &[(0, 0)], false),
+    ("twice", &[(0, 1), (0, 1)], false),
+    ("behind no vertex", &[(0, 4)], false),
+];
 
 #[test]
 fn an_edge_between_two_edges(rt: HostRuntime) {
     let state = of_level_1(&rt, &[(0, 1), (2, 3)]);
     assert_eq!(rt; state.order(), [0, 1, 2, 3].as_slice());
-    assert_shifts(&rt, &state);
+    for shift in &SHIFTS {
+        assert_shift(&rt, &state, shift);
+    }
 }
+
+/// How vertices fall, the edge that goes, the level and the vertices, and whether they may.
+type Fall = (&'static str, (u32, u32), u32, &'static [u32], bool);
 
 /// These vertices fall from this level where this edge goes, or do not.
-fn assert_fall<R: Abort + AllocGlobal>(
-    rt: &R,
-    state: &Lawful,
-    what: &str,
-    edge: (u32, u32),
-    falls: (u32, &[u32]),
-    wanted: bool,
-) {
-    let moves = fall(rt, falls.0, falls.1);
-    assert_passes(rt, state, (false, edge.0, edge.1), moves, wanted, what);
+fn assert_fall<R: Abort + AllocGlobal>(rt: &R, state: &Lawful, fallers: &Fall) {
+    let (what, (u, v), level, fallers, wanted) = *fallers;
+    let moves = fall(rt, level, fallers);
+    assert_passes(rt, state, (false, u, v), moves, wanted, what);
 }
 
-/// Just these falls pass where an edge of a path goes.
-fn assert_path_falls<R: Abort + AllocGlobal>(rt: &R, state: &Lawful) {
-    assert_fall(rt, state, "the end falls", (0, 1), (1, &[0]), true);
-    assert_fall(
-        rt,
-        state,
-        "its neighbour falls too",
-        (0, 1),
-        (1, &[0, 1]),
-        false,
-    );
-    assert_fall(
-        rt,
-        state,
-        "it falls below level 0",
-        (0, 1),
-        (0, &[0]),
-        false,
-    );
-    assert_fall(
-        rt,
-        state,
-        "it stays without support",
-        (0, 1),
-        (1, &[]),
-        false,
-    );
-    assert_fall(
-        rt,
-        state,
-        "in the middle none falls",
-        (1, 2),
-        (1, &[]),
-        true,
-    );
-    assert_fall(
-        rt,
-        state,
+/// Just three of these falls pass where an edge of a path goes.
+const PATH_FALLS: [Fall; 6] = [
+    ("the end falls", (0, 1), 1, &[0], true),
+    ("its neighbour falls too", (0, 1), 1, &[0, 1], false),
+    ("it falls below level 0", (0, 1), 0, &[0], false),
+    ("it stays without support", (0, 1), 1, &[], false),
+    ("in the middle none falls", (1, 2), 1, &[], true),
+    (
         "nor from a level that none has",
         (1, 2),
-        (u32::MAX, &[]),
+        u32::MAX,
+        &[],
         true,
-    );
-    assert_passes(
-        rt,
-        state,
-        (false, 0, 2),
-        Moves::Kept,
-        true,
-        "it is not there",
-    );
-    assert_passes(rt, state, (false, 1, 2), Moves::Kept, false, "it is there");
+    ),
+];
+
+/// An edge that goes from a path is kept where it is not there.
+fn assert_no_fall<R: Abort + AllocGlobal>(rt: &R, state: &Lawful) {
+    let (absent, there) = (Moves::Kept, Moves::Kept);
+    assert_passes(rt, state, (false, 0, 2), absent, true, "it is not there");
+    assert_passes(rt, state, (false, 1, 2), there, false, "it is there");
 }
 
 #[test]
 fn an_edge_that_goes_from_a_path(rt: HostRuntime) {
     let state = of_level_1(&rt, &[(0, 1), (1, 2), (2, 3)]);
-    assert_path_falls(&rt, &state);
+    for fallers in &PATH_FALLS {
+        assert_fall(&rt, &state, fallers);
+    }
+    assert_no_fall(&rt, &state);
 }

@@ -1,5 +1,5 @@
 //! Small graphs, with answers worked out by hand.
-ghost use Rattle.std.specs.Prelude.{◌<◌, All};
+ghost use Rattle.std.specs.Prelude.{◌<◌};
 
 use kc_graph::{Graph, Lawful, Neighbours, SharedGraph, Update, core_numbers, decompose};
 use std::process::Abort;
@@ -13,30 +13,34 @@ fn change<R: Abort>(rt: &R, graph: &mut Graph, add: bool, u: u32, v: u32) -> boo
     graph.remove(v, u)
 }
 
+/// An update of a graph, whether it changes the graph, and how many edges it leaves.
+type Change = ((bool, u32, u32), bool, u64);
+
 /// An update changes the graph or not, and leaves so many edges.
-fn assert_change<R: Abort>(
-    rt: &R,
-    graph: &mut Graph,
-    update: (bool, u32, u32),
-    changes: bool,
-    edges: u64,
-) {
-    let (add, u, v) = update;
+fn assert_change<R: Abort>(rt: &R, graph: &mut Graph, update: &Change) {
+    let ((add, u, v), changes, edges) = *update;
     let changed = change(rt, graph, add, u, v);
     assert!(rt; u < graph.vertices());
     let left = (changed, graph.has(u, v), graph.edges());
     assert_eq!(rt; left, (changes, add, edges), "at {u} {v}");
 }
 
+/// Updates of four vertices without edges, in this order.
+const CHANGES: [Change; 7] = [
+    ((true, 0, 1), true, 1),
+    ((true, 2, 3), true, 2),
+    ((true, 0, 1), false, 2),
+    ((true, 1, 2), true, 3),
+    ((false, 0, 3), false, 3),
+    ((false, 0, 1), true, 2),
+    ((false, 0, 1), false, 2),
+];
+
 /// Each update changes the graph or not.
 fn assert_changes<R: Abort>(rt: &R, graph: &mut Graph) {
-    assert_change(rt, graph, (true, 0, 1), true, 1);
-    assert_change(rt, graph, (true, 2, 3), true, 2);
-    assert_change(rt, graph, (true, 0, 1), false, 2);
-    assert_change(rt, graph, (true, 1, 2), true, 3);
-    assert_change(rt, graph, (false, 0, 3), false, 3);
-    assert_change(rt, graph, (false, 0, 1), true, 2);
-    assert_change(rt, graph, (false, 0, 1), false, 2);
+    for update in &CHANGES {
+        assert_change(rt, graph, update);
+    }
     assert!(rt; 2 < graph.vertices());
     assert_eq!(rt; graph.neighbours(2), [1, 3].as_slice());
 }
@@ -66,36 +70,59 @@ fn assert_numbers<R: Abort + AllocGlobal>(rt: &R, graph: &Graph, core: &[u32], e
     assert_decomposition(rt, &lawful, core, edges);
 }
 
+/// The graph with these edges, each with its lesser end first.
+pub(crate) fn graph_of<R: Abort + AllocGlobal>(
+    rt: &R,
+    vertices: u32,
+    edges: &[(u32, u32)],
+) -> Graph {
+    assert!(rt; edges.iter().all(|(u, v)| u < v && *v < vertices));
+    Graph::from_pairs(rt.alloc(), vertices, edges).expect(rt, "no memory")
+}
+
+/// How many vertices a graph has, its edges and its core numbers.
+type Numbered = (u32, &'static [(u32, u32)], &'static [u32]);
+
 /// The core numbers of this graph are these, and its decomposition has its edges and a place for each vertex.
-fn check<R: Abort + AllocGlobal>(rt: &R, vertices: u32, edges: &[(u32, u32)], core: &[u32])
-    requires { All (λ p. (p.0 < p.1) × (p.1 < vertices)) edges.now }
-{
-    let graph = Graph::from_pairs(rt.alloc(), vertices, edges).expect(rt, "no memory");
+fn check<R: Abort + AllocGlobal>(rt: &R, numbered: &Numbered) {
+    let (vertices, edges, core) = *numbered;
+    let graph = graph_of(rt, vertices, edges);
     assert_numbers(rt, &graph, core, edges.len() as u64);
 }
 
+const NUMBERED: [Numbered; 5] = [
+    (0, &[], &[]),
+    (2, &[], &[0, 0]),
+    // a triangle with a tail
+    (
+        6,
+        &[(0, 1), (0, 2), (1, 2), (2, 3), (3, 4)],
+        &[2, 2, 2, 1, 1, 0],
+    ),
+    // triangles with a common edge
+    (4, &[(1, 2), (0, 2), (1, 3), (0, 1), (2, 3)], &[2, 2, 2, 2]),
+    // all of four, and one more
+    (
+        5,
+        &[
+            (0, 1),
+            (0, 2),
+            (0, 3),
+            (1, 2),
+            (1, 3),
+            (2, 3),
+            (0, 4),
+            (1, 4),
+        ],
+        &[3, 3, 3, 3, 2],
+    ),
+];
+
 #[test]
 fn core_numbers_of_small_graphs(rt: HostRuntime) {
-    check(&rt, 0, &[], &[]);
-    check(&rt, 2, &[], &[0, 0]);
-
-    let triangle_with_a_tail = [(0, 1), (0, 2), (1, 2), (2, 3), (3, 4)];
-    check(&rt, 6, &triangle_with_a_tail, &[2, 2, 2, 1, 1, 0]);
-
-    let triangles_with_a_common_edge = [(1, 2), (0, 2), (1, 3), (0, 1), (2, 3)];
-    check(&rt, 4, &triangles_with_a_common_edge, &[2, 2, 2, 2]);
-
-    let all_of_four_and_one_more = [
-        (0, 1),
-        (0, 2),
-        (0, 3),
-        (1, 2),
-        (1, 3),
-        (2, 3),
-        (0, 4),
-        (1, 4),
-    ];
-    check(&rt, 5, &all_of_four_and_one_more, &[3, 3, 3, 3, 2]);
+    for numbered in &NUMBERED {
+        check(&rt, numbered);
+    }
 }
 
 /// A list that was shared, and whose first owner is gone.

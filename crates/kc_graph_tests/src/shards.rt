@@ -47,20 +47,23 @@ fn assert_fault<R: Abort + AllocGlobal>(rt: &R, offsets: &[u64], fault: ShardFau
     assert_eq!(rt; (done, next), wanted, "{fault:?}");
 }
 
+/// The length of a row that is too long by one.
+const LONG: u64 = 1 << 32;
+
+const FAULTS: [(&[u64], ShardFault); 8] = [
+    (&[], ShardFault::WrongOffsetCount),
+    (&[0, 3], ShardFault::WrongOffsetCount),
+    (&[1, 1, 3], ShardFault::FirstNotZero),
+    (&[0, 2, 1], ShardFault::Descending(2)),
+    (&[0, 0, LONG], ShardFault::LongRow(1)),
+    (&[0, 0, LONG - 1], ShardFault::WrongLastOffset),
+    (&[0, 1, 2], ShardFault::WrongLastOffset),
+    (&[0, 1, 3], ShardFault::NotAVertex(2)),
+];
+
 #[test]
 fn shards_with_something_wrong(rt: HostRuntime) {
-    let long = 1 << 32;
-    let cases: [(&[u64], ShardFault); 8] = [
-        (&[], ShardFault::WrongOffsetCount),
-        (&[0, 3], ShardFault::WrongOffsetCount),
-        (&[1, 1, 3], ShardFault::FirstNotZero),
-        (&[0, 2, 1], ShardFault::Descending(2)),
-        (&[0, 0, long], ShardFault::LongRow(1)),
-        (&[0, 0, long - 1], ShardFault::WrongLastOffset),
-        (&[0, 1, 2], ShardFault::WrongLastOffset),
-        (&[0, 1, 3], ShardFault::NotAVertex(2)),
-    ];
-    for (offsets, fault) in cases {
-        assert_fault(&rt, offsets, fault);
+    for (offsets, fault) in &FAULTS {
+        assert_fault(&rt, offsets, *fault);
     }
 }
