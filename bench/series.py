@@ -1,12 +1,13 @@
 #!/usr/bin/env python3
 """Measures what the README tells of speed, in one series on one machine, and writes a table for each of its claims.
 
-    python3 bench/series.py --kcore PROGRAM --cores PROGRAM --peers bench/build GRAPH.. > bench/figures/series.md
+    python3 bench/series.py --kcore PROGRAM --cores PROGRAM --peers bench/build [--stream FILE] GRAPH.. > bench/figures/series.md
 
 GRAPH are edge lists without batches, named after their files; DIR of --peers holds `gen`, `peer_plain`, `peer_order` and `peer_igraph`.
 All times are processor time but where the clock is told, medians of --rounds runs (5) in turns: so other work on the machine falls on all
 alike. Where it is allowed the runs have a real-time priority. The outputs have to be the same, or the script ends with status 1. With
---only NAME,NAME.. it makes these tables alone: rest, updates, large, workers, check, tables, watch, ones.
+--only NAME,NAME.. it makes these tables alone: rest, updates, large, workers, check, tables, watch, ones, stream. The last one is of the
+text that --stream FILE names, as `bench/cochange.py` writes it.
 """
 import argparse
 import hashlib
@@ -24,6 +25,7 @@ import time
 PRIORITY = 1
 ANEW = 20  # batches of one update, of which each has `plain` and igraph compute all anew
 LARGE = 10_000_000  # bytes of a graph that is not small
+ANSWERS = 3_000  # batches of one new edge, of which each is sent when the one before it is answered
 
 
 def urgent():
@@ -61,6 +63,31 @@ def write_small_batches(graph, count, path):
             comes = edges[at] if comes[0] == comes[1] else comes
             file.write(f"batch\n- {' '.join(edges[at])}\nbatch\n+ {' '.join(comes)}\n")
             edges[at] = comes
+
+
+def answer_times(cores, graph, count):
+    """Microseconds from a batch of one new edge and the line that ends it to its answer: the median and the most."""
+    edges = [line.split()[:2] for line in graph.open() if line[:1] not in "#%\n"]
+    known, chance, times = {frozenset(edge) for edge in edges}, random.Random(1), []
+    watch = subprocess.Popen([cores, "watch"], stdin=subprocess.PIPE, stdout=subprocess.PIPE, preexec_fn=urgent)
+    watch.stdin.write("".join(f"{u} {v}\n" for u, v in edges).encode() + b"batch\n")
+    watch.stdin.flush()
+    watch.stdout.readline()
+    urgent()
+    while len(times) < count:
+        u, v = chance.choice(edges)[0], chance.choice(edges)[1]
+        if u == v or frozenset((u, v)) in known:
+            continue
+        known.add(frozenset((u, v)))
+        begun = time.perf_counter()
+        watch.stdin.write(f"+ {u} {v}\nbatch\n".encode())
+        watch.stdin.flush()
+        watch.stdout.readline()
+        times.append(1e6 * (time.perf_counter() - begun))
+    watch.stdin.close()
+    if watch.wait():
+        sys.exit(f"status {watch.returncode}: {cores} watch")
+    return statistics.median(times), max(times)
 
 
 class Series:
@@ -194,15 +221,27 @@ def tables(series, graphs):
 
 def watched(series, graphs):
     """A stream that is answered, beside the batch tool on the same text, and beside `plain` where one batch has all edges."""
-    print("| Graph | `watch`, 100 batches of 100, beside `kcore --show summary` | One batch with all edges, beside `plain` |")
-    print("|---|---|---|")
+    words = ("`watch`, 100 batches of 100, beside `kcore --show summary`", "One batch with all edges, beside `plain`", "From line to line, microseconds")
+    print(f"| Graph | {' | '.join(words)} |")
+    print("|---|---|---|---|")
     for graph in graphs:
         many = series.stream(graph, 100, 100)
         kcore, watch = series.turns([[series.kcore, "--show", "summary"], [series.cores, "watch"]], many, same=False)
         edges = series.folder / f"{graph.stem}.one.txt"
         subprocess.run(["sh", "-c", "(echo batch; grep -v '^[#%]' \"$1\" | sed 's/^/+ /') > \"$2\"", "sh", graph, edges], check=True)
         plain, whole = series.turns([[series.peers / "peer_plain", "summary"], [series.cores, "watch"]], edges, same=False)
-        print(f"| {graph.stem} | {watch[3]:.2f} | {whole[3]:.2f} |", flush=True)
+        with multiprocessing.Pool(1) as sender:  # (a process of its own has the real-time priority)
+            median, most = sender.apply(answer_times, (series.cores, graph, ANSWERS))
+        print(f"| {graph.stem} | {watch[3]:.2f} | {whole[3]:.2f} | {median:.0f}, at most {most:.0f} |", flush=True)
+
+
+def streamed(series, streams):
+    """A stream of large batches, beside `plain`, which computes all anew after each batch."""
+    print("| Stream | `plain`, ms | `watch` / `plain` | Memory of `plain` and of `watch`, MB |")
+    print("|---|---|---|---|")
+    for path in streams:
+        plain, watch = series.turns([[series.peers / "peer_plain", "summary"], [series.cores, "watch"]], path, same=False)
+        print(f"| {path.stem} | {plain[0] * 1e3:.0f} | {watch[3]:.2f} | {plain[2]:.0f}, {watch[2]:.0f} |", flush=True)
 
 
 def small_batches(series, graphs):
@@ -223,7 +262,8 @@ def main():
     words.add_argument("--peers", required=True)
     words.add_argument("--rounds", type=int, default=5)
     words.add_argument("--only", type=lambda names: names.split(","), default=[])
-    words.add_argument("graphs", nargs="+", type=pathlib.Path)
+    words.add_argument("--stream", action="append", type=pathlib.Path, default=[])
+    words.add_argument("graphs", nargs="*", type=pathlib.Path)
     chosen = words.parse_args()
     series, graphs = Series(chosen), chosen.graphs
     small = [graph for graph in graphs if graph.stat().st_size < LARGE]
@@ -239,6 +279,7 @@ def main():
         "tables": ("Tables beside plain edge lists", tables, mixed),
         "watch": ("A stream that is answered", watched, real),
         "ones": ("A stream of batches of one update", small_batches, real),
+        "stream": ("A stream of large batches", streamed, chosen.stream),
     }
     for name, (title, make, these) in parts.items():
         if not chosen.only or name in chosen.only:

@@ -28,6 +28,8 @@ RUN, ANSWER = ("kc_top/src/run.rt", "run"), ("kc_cores/src/answer.rt", "answer")
 PROGRAMS = (("kc_program/src/program.rt", "run_on"), ("kc_cores/src/program.rt", "answer_on"))
 # What a run leaves in `ran` is reached by these words alone.
 LEFT = frozenset({("kc_run/src/ran.rt", "Ran"), ("kc_run/specs/Runs.antt", "IsEmpty"), ("kc_top/specs/Leaving.antt", "RunLeaves")})
+# Who makes the batches of a stream is a bound of `answer`, and no clause of it speaks of that: what is promised holds whoever it is.
+MAKER = frozenset({("kc_keeper/src/maker.rt", "BatchMaker")})
 
 TOKEN = re.compile(r"(?<![\w'.-])[^\W\d][\w'-]*(?:\.[^\W\d][\w'-]*)*")
 LABEL = re.compile(r"\b(requires|ensures)( \w+)? (?=\{)")
@@ -239,8 +241,8 @@ def skipped(words):
 
 def lists():
     """The lists of the page by their names."""
-    (whole, kit), (text, _), (cores, more) = reached(RUN), reached(RUN, LEFT), reached(ANSWER)
-    programs = reached(PROGRAMS[0])[0] | reached(PROGRAMS[1])[0]
+    (whole, kit), (text, _), (cores, more) = reached(RUN), reached(RUN, LEFT), reached(ANSWER, MAKER)
+    programs = reached(PROGRAMS[0])[0] | reached(PROGRAMS[1], MAKER)[0]
     order = in_order(whole | cores | programs)
     both = text.keys() & cores.keys()
     return {
