@@ -12,8 +12,9 @@ as half of them have it, it has to drop the batch of such a line and go on, and 
 without a last newline. Among the changes stand questions, of known ids and others. Half of them are watched with `--show changes`, most with
 `--enter K`, and a third with `--format json`: there the model writes each line in words as an object. In a third of them the front of the
 stream, cut anywhere, is a file that `--from` names; others go on from a state by `--load`. A third is saved by `--save`, half of these with
-`--every`: then the file has to have a state of the stream, the last one or one that is not too old. At the end it tries files that can't stand in front, a reader that goes away
-(`| head -1`), a folder as standard input, and /dev/full.
+`--every`: then the file has to have a state of the stream, the last one or one that is not too old. Half have `--workers`, which changes no
+answer. At the end it tries files that can't stand in front, a reader that goes away (`| head -1`), a folder as standard input, and /dev/full, and
+has batches of a large graph made by one worker and by four, for which that many are asked.
 """
 import argparse
 import collections
@@ -86,16 +87,17 @@ def object_of(line):
 class Options:
     """What is asked for behind the line of a batch, whether a refused line drops its batch, whether lines are objects, and the text of the file in
     front of the stream, if there is one. Where that is the start text of a state, `state` is the text of the state. The stream is saved where
-    `saves` holds, and behind each `every` batches."""
+    `saves` holds, and behind each `every` batches. So many `workers` may make a batch."""
 
     def __init__(self, changes=False, enter=None, drops=False, objects=False, start=None):
         self.changes, self.enter, self.drops, self.objects, self.start = changes, enter, drops, objects, start
-        self.state, self.saves, self.every = None, False, None
+        self.state, self.saves, self.every, self.workers = None, False, None, None
 
     def words(self):
         words = ["--show", "changes"] * self.changes + (["--enter", str(self.enter)] if self.enter is not None else [])
         words += ["--bad-lines", "batch"] * self.drops + ["--format", "json"] * self.objects
         words += ["--save", SAVED] * self.saves + ["--every", str(self.every)] * (self.every is not None)
+        words += ["--workers", str(self.workers)] * (self.workers is not None)
         if self.state is not None:
             return words + ["--load", STATE]
         return words + ["--from", START] * (self.start is not None)
@@ -448,6 +450,7 @@ def try_faults(program, seconds):
         check("/dev/full as output", run_with(program, b"1 2\n", stdout=full), (5, b"cores: the output could not be written to its end\n"))
     try_starts(program)
     try_reader_gone(program, seconds)
+    try_workers(program)
 
 
 def try_starts(program):
@@ -470,6 +473,25 @@ def try_reader_gone(program, seconds):
         talk.finish(0, b"")
     finally:
         talk.close()
+
+
+def rows_of(count, length):
+    """So many paths of so many ids, and two batches for which it pays to ask four workers: each closes half of the paths, and opens the others."""
+    yield from (f"{first + place} {first + place + 1}" for first in range(0, count * length, length) for place in range(length - 1))
+    for turn in range(2):
+        yield "batch"
+        yield from (f"{'+' if row % 2 == turn else '-'} {row * length} {row * length + length - 1}" for row in range(count))
+
+
+def try_workers(program):
+    """The answers are the same for each number of workers, and a number that is none is refused."""
+    stream = "\n".join(rows_of(10_000, 21)).encode()
+    texts = [subprocess.run([program, "watch", "--show", "changes", *words], input=stream, stdout=subprocess.PIPE, timeout=600, check=True).stdout
+             for words in ((), ("--workers", "4"))]
+    check("as many lines by four workers as by one", texts[1].count(b"\n"), texts[0].count(b"\n"))
+    check("the same text by four workers as by one", texts[1] == texts[0], True)
+    for wrong in ("0", "65", "x"):
+        check(f"{wrong} workers", run_with(program, b"", words=["--workers", wrong])[0], 2)
 
 
 def check(what, is_so, must_be):
@@ -508,6 +530,7 @@ def cases_of(seed, count):
             options.start, options.state = random_state(rng)
         options.saves = rng.random() < 0.3
         options.every = rng.choice((None, 1, 2, 3)) if options.saves else None
+        options.workers = rng.choice((None, None, None, 1, 4, 64))
         yield options, pieces_of(rng, data)
 
 

@@ -30,6 +30,7 @@ use Rattle.kc_stream.specs.declared.bad_lines.BadLines.TheVariants as on_bad
 use Rattle.kc_reply.specs.declared.reply_format.ReplyFormat.{ReplyFormat}
 use Rattle.kc_reply.specs.declared.reply_format.ReplyFormat.TheVariants as written
 use Rattle.kc_watch.specs.declared.options.WatchOptions.{WatchOptions}
+use Rattle.kc_queue.specs.declared.consumer.TheConstants.{WORKERS}
 use Rattle.kc_lines.specs.declared.format.Format.{Format}
 use Rattle.kc_lines.specs.declared.format.Format.TheVariants.{Json, Tabs}
 use Rattle.kc_wishes.specs.declared.request.Task.{Task}
@@ -143,6 +144,10 @@ enter_option = record (value_option (codes "enter")) { parser = Some (Signed (po
 abbrev pub stream_command : App
 stream_command = new_app (codes "watch")
 
+-- `--workers W`, with a number of 32 bits
+abbrev pub workers_option : Rule
+workers_option = record (value_option (codes "workers")) { parser = Some (Signed (pos 0) (pos 4294967295)) }
+
 -- the command with the options about what a stream is answered
 abbrev pub with_answers : App → App
 with_answers app =
@@ -162,7 +167,7 @@ with_saving app = with_rule (with_rule app (value_option (codes "save"))) every_
 
 -- the command that answers a stream
 abbrev pub watch_command : App
-watch_command = with_saving (with_start (with_answers stream_command))
+watch_command = with_saving (with_start (with_answers (with_rule stream_command workers_option)))
 
 -- the command that reads the words, with a command of its own for each task, for the check and for a stream
 abbrev pub cores_command : App
@@ -447,17 +452,27 @@ abbrev pub reply_format_in : Option Text → Option ReplyFormat
 reply_format_in None = Some written.Words
 reply_format_in (Some text) = reply_format_of text
 
--- what a stream is to be answered, where all parts are right; each batch is made by one worker
-abbrev pub options_of : Option Show → Option (Option ℕ) → Option StreamBadLines → Option ReplyFormat → Option WatchOptions
-options_of (Some show) (Some enter) (Some bad) (Some format) =
-    Some (record { show = show; enter = enter; bad_lines = bad; format = format; workers = 1 })
-options_of _ _ _ _ = None
+-- a number from 1 to `most`
+abbrev pub counted_from_one : ℕ → Text → Option ℕ
+counted_from_one most text = option_and_then (λ n. if nat_lt 0 n && nat_le n most then Some n else None) (number_of text)
+
+-- by how many workers a batch of a stream may be made: by one where nothing else is said
+abbrev pub workers_in : Option Text → Option ℕ
+workers_in None = Some 1
+workers_in (Some text) = counted_from_one WORKERS text
+
+-- what a stream is to be answered, where all parts are right
+abbrev pub options_of : Option Show → Option (Option ℕ) → Option StreamBadLines → Option ReplyFormat → Option ℕ → Option WatchOptions
+options_of (Some show) (Some enter) (Some bad) (Some format) (Some workers) =
+    Some (record { show = show; enter = enter; bad_lines = bad; format = format; workers = workers })
+options_of _ _ _ _ _ = None
 
 -- what a stream is to be answered, by the matches of the command
 abbrev pub options_in : List Row → Option WatchOptions
 options_in rows =
     options_of (show_in (first_of (codes "show") rows)) (level_in (first_of (codes "enter") rows))
     (stream_bad_lines_in (first_of (codes "bad-lines") rows)) (reply_format_in (first_of (codes "format") rows))
+    (workers_in (first_of (codes "workers") rows))
 
 -- what stands in front of a stream, by the name of a file that is not standard input, which brings the stream
 abbrev pub begun_by : (Text → StreamStart) → Text → Option StreamStart
@@ -469,10 +484,6 @@ start_in None None = Some Unbegun
 start_in (Some name) None = begun_by (λ file. BegunFrom file) name
 start_in None (Some name) = begun_by (λ file. BegunFromState file) name
 start_in (Some name) (Some other) = None
-
--- a number from 1 to `most`
-abbrev pub counted_from_one : ℕ → Text → Option ℕ
-counted_from_one most text = option_and_then (λ n. if nat_lt 0 n && nat_le n most then Some n else None) (number_of text)
 
 -- behind how many batches the state of a stream is saved anew, where that is said: at least one
 abbrev pub every_in : Option Text → Option (Option ℕ)

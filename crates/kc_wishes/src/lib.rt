@@ -12,7 +12,7 @@
 //! (`dialect_words`). Those about the output stand in `output_words`, and those about a stream in `watch_words`.
 //!
 //! The crate stands on `kc_dialect` for dialects, on `kc_lines` for the format of lines, on `kc_watch` for what a stream is answered, on
-//! `kc_graph` for want of memory, and on `clap`.
+//! `kc_queue` for how many workers there may be, on `kc_graph` for want of memory, and on `clap`.
 #![tactic(auto)]
 
 mod dialect_words;

@@ -1,5 +1,5 @@
-//! The words about a stream: what it is answered beside the lines of its graph and of its batches, what becomes of bad lines, what stands in
-//! front of it, and where its state is saved.
+//! The words about a stream: what it is answered beside the lines of its graph and of its batches, what becomes of bad lines, by how many workers
+//! its batches may be made, what stands in front of it, and where its state is saved.
 ghost use Rattle.std.specs.Prelude.{◌≡◌, IfOk, false, option_map};
 ghost use Rattle.clap.specs.Simple.{app_of};
 ghost use Rattle.clap.specs.Walk.{rule_of};
@@ -7,12 +7,13 @@ ghost use Rattle.clap.specs.declared.builder.command.Command.TheViews.{out-Comma
 ghost use Rattle.kc_wishes.specs.Requests.{plan_of, start_of, stream_of_request};
 ghost use Rattle.kc_wishes.specs.Wishes.{enter_option, options_of, show_in, show_of, stream_bad_lines_in, stream_bad_lines_of, stream_command};
 ghost use Rattle.kc_wishes.specs.Wishes.{counted_from_one, every_in, every_option, save_in, saved_to, start_in, stream_of, watch_command, with_answers};
-ghost use Rattle.kc_wishes.specs.Wishes.{format_option, reply_format_in, reply_format_of, with_saving, with_start};
+ghost use Rattle.kc_wishes.specs.Wishes.{format_option, reply_format_in, reply_format_of, with_saving, with_start, workers_in, workers_option};
 
 use crate::dialect_words::{number_of, value_option};
 use crate::request::{SavePlan, StreamStart, WatchRequest};
 use clap::{Arg, ArgAction, Command};
 use kc_graph::NoMemory;
+use kc_queue::WORKERS;
 use kc_watch::{BadLines, ReplyFormat, Show, WatchOptions};
 use std::alloc::Global;
 
@@ -54,6 +55,19 @@ fn stream_command<'a>(alloc: Global) -> Command<'a>
             "Answers a stream: edges, then batches of + A B and - A B, each begun by a line batch",
         )
         .after_help("Example: tail -f changes.txt | cores watch --show changes")
+}
+
+/// The option `--workers W`.
+fn workers_option<'a>(alloc: Global) -> Arg<'a>
+    ensures rule { rule_of result ≡ workers_option }
+    ensures local { result.global ≡ false }
+{
+    Arg::new(alloc, "workers")
+        .long("workers")
+        .action(ArgAction::Set)
+        .value_name("W")
+        .value_parser(clap::value_parser!(u32))
+        .help("Lets up to W threads make a large batch, 1 to 64; the answers are the same")
 }
 
 /// The command with the options about what a stream is answered.
@@ -133,7 +147,8 @@ pub(crate) fn watch_command<'a>(alloc: Global) -> Result<Command<'a>, NoMemory>
     ensures app { IfOk result (λ made. app_of made ≡ watch_command) }
     ensures local { IfOk result (λ made. (out-Command made).has_globals ≡ false) }
 {
-    let answered = with_answers(alloc, stream_command(alloc))?;
+    let worked = stream_command(alloc).arg(workers_option(alloc))?;
+    let answered = with_answers(alloc, worked)?;
     let started = with_start(alloc, answered)?;
     with_saving(alloc, started)
 }
@@ -201,23 +216,36 @@ pub(crate) fn reply_format_in(text: Option<&str>) -> Option<ReplyFormat>
     }
 }
 
+/// By how many workers a batch of a stream may be made: by one where nothing else is said.
+pub(crate) fn workers_in(text: Option<&str>) -> Option<u32>
+    ensures { result ≡ workers_in (option_map (λ t. t.now) text.entry) }
+{
+    match text {
+        None => Some(1),
+        Some(text) => counted_from_one(WORKERS as u32, text),
+    }
+}
+
 /// What a stream is to be answered, where all parts are right.
 pub(crate) fn options_of(
     show: Option<Show>,
     enter: Option<Option<u32>>,
     bad_lines: Option<BadLines>,
     format: Option<ReplyFormat>,
+    workers: Option<u32>,
 ) -> Option<WatchOptions>
-    ensures { result ≡ options_of show enter bad_lines format }
+    ensures { result ≡ options_of show enter bad_lines format workers }
 {
-    match (show, enter, bad_lines, format) {
-        (Some(show), Some(enter), Some(bad_lines), Some(format)) => Some(WatchOptions {
-            show,
-            enter,
-            bad_lines,
-            format,
-            workers: 1,
-        }),
+    match (show, enter, bad_lines, format, workers) {
+        (Some(show), Some(enter), Some(bad_lines), Some(format), Some(workers)) => {
+            Some(WatchOptions {
+                show,
+                enter,
+                bad_lines,
+                format,
+                workers,
+            })
+        }
         _ => None,
     }
 }

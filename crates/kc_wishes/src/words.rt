@@ -27,7 +27,7 @@ use crate::request::{
 };
 use crate::watch_words::{
     options_of, reply_format_in, save_in, show_in, start_in, stream_bad_lines_in, stream_of,
-    watch_command,
+    watch_command, workers_in,
 };
 use clap::error::ErrorKind;
 use clap::{Arg, ArgAction, ArgMatches, Command, Error};
@@ -616,7 +616,8 @@ fn options_in(found: &ArgMatches<'_>) -> Option<WatchOptions>
     let enter = level_in(found.get_str("enter"));
     let bad_lines = stream_bad_lines_in(found.get_str("bad-lines"));
     let format = reply_format_in(found.get_str("format"));
-    options_of(show, enter, bad_lines, format)
+    let workers = workers_in(found.get_str("workers"));
+    options_of(show, enter, bad_lines, format, workers)
 }
 
 /// The answer to a stream, by the matches of the command `watch`.
@@ -634,8 +635,8 @@ fn wrong_show(alloc: Global) -> Reply
 {
     match String::from_str(
         alloc,
-        "cores: --show takes summary or changes, --enter a number, --bad-lines stop or batch, --format text or json, --from, --load and --save \
-         a file, not standard input or output, --from or --load and not both, and --every a number from 1, beside --save\n",
+        "cores: --workers takes 1 to 64, --show summary or changes, --enter a number, --bad-lines stop or batch, --format text or json, --from, \
+         --load and --save a file, not standard input or output, --from or --load and not both, and --every a number from 1, beside --save\n",
     ) {
         Ok(text) => Reply::Mistake(text),
         Err(_) => Reply::NoMemory,

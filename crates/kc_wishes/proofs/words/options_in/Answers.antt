@@ -3,7 +3,7 @@ use Rattle.std.proofs.Common.{◌≡◌, ◌∙◌, ap, codes}
 use Rattle.clap.specs.Matches.{found_of}
 use Rattle.clap.specs.Walk.{first_of, rows_of}
 use Rattle.clap.proofs.WalkLemmas.{first_value-rows}
-use Rattle.kc_wishes.specs.Wishes.{level_in, options_of, reply_format_in, show_in, stream_bad_lines_in}
+use Rattle.kc_wishes.specs.Wishes.{level_in, options_of, reply_format_in, show_in, stream_bad_lines_in, workers_in}
 use Rattle.kc_wishes.proofs.words.options_in.Goals as goal
 
 pub returns : goal.returns
@@ -18,4 +18,6 @@ returns c =
     c.stream_bad_lines_in-bad_lines.ensures ∙ ap stream_bad_lines_in (c.get_str-3.ensures ∙ first_value-rows found (codes "bad-lines")) in
     let format : c.reply_format_in-format.result ≡ reply_format_in (first_of (codes "format") rows) =
     c.reply_format_in-format.ensures ∙ ap reply_format_in (c.get_str-4.ensures ∙ first_value-rows found (codes "format")) in
-    c.options_of.ensures ∙ (λ i. options_of (show i) (enter i) (bad i) (format i))
+    let workers : c.workers_in-workers.result ≡ workers_in (first_of (codes "workers") rows) =
+    c.workers_in-workers.ensures ∙ ap workers_in (c.get_str-5.ensures ∙ first_value-rows found (codes "workers")) in
+    c.options_of.ensures ∙ (λ i. options_of (show i) (enter i) (bad i) (format i) (workers i))
