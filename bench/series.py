@@ -6,7 +6,7 @@
 GRAPH are edge lists without batches, named after their files; DIR of --peers holds `gen`, `peer_plain`, `peer_order` and `peer_igraph`.
 All times are processor time but where the clock is told, medians of --rounds runs (5) in turns: so other work on the machine falls on all
 alike. Where it is allowed the runs have a real-time priority. The outputs have to be the same, or the script ends with status 1. With
---only NAME,NAME.. it makes these tables alone: rest, updates, large, workers, check, tables, watch, ones, stream. The last one is of the
+--only NAME,NAME.. it makes these tables alone: rest, updates, large, back, workers, check, tables, watch, ones, stream. The last one is of the
 text that --stream FILE names, as `bench/cochange.py` writes it.
 """
 import argparse
@@ -25,6 +25,7 @@ import time
 PRIORITY = 1
 ANEW = 20  # batches of one update, of which each has `plain` and igraph compute all anew
 LARGE = 10_000_000  # bytes of a graph that is not small
+PART = 105_000  # updates that take a twentieth of the edges of a large graph out and give it back
 ANSWERS = 3_000  # batches of one new edge, of which each is sent when the one before it is answered
 
 
@@ -113,13 +114,17 @@ class Series:
             told.append((*columns, *(statistics.median(row[at][what] / row[0][what] for row in rows) for what in range(2))))
         return told
 
+    def made(self, graph, changes):
+        """What `gen` makes of a graph with changes, in a file. The graph is a file, or the words of one that `gen` makes."""
+        words = ["file", graph] if isinstance(graph, pathlib.Path) else list(graph)
+        path = self.folder / ("-".join(map(str, [pathlib.Path(words[-1]).stem, *changes])) + ".txt")
+        with path.open("wb") as file:
+            subprocess.run([self.peers / "gen", *words, "--", *map(str, changes)], stdout=file, stderr=subprocess.DEVNULL, check=True)
+        return path
+
     def stream(self, graph, batches, updates):
         """The graph with random updates, in a file."""
-        path = self.folder / f"{graph.stem}-{batches}-{updates}.txt"
-        with path.open("wb") as file:
-            words = [self.peers / "gen", "file", graph, "--", "random", str(batches), str(updates), "1"]
-            subprocess.run(words, stdout=file, stderr=subprocess.DEVNULL, check=True)
-        return path
+        return self.made(graph, ("random", batches, updates, 1))
 
     def small_batches(self, graph, count):
         """The graph with batches of one update, in a file. A process of its own writes it: else a run's peak would be no less than what that takes."""
@@ -244,6 +249,21 @@ def streamed(series, streams):
         print(f"| {path.stem} | {plain[0] * 1e3:.0f} | {watch[3]:.2f} | {plain[2]:.0f}, {watch[2]:.0f} |", flush=True)
 
 
+def given_back(series, graphs):
+    """Edges that go and come back, and updates that each move nearly all vertices, beside the same algorithm without proofs."""
+    print("| Stream | `order`, s | `kcore`, s | `kcore` / `order` | The clock by 2 and by 4 workers, beside one |")
+    print("|---|---|---|---|---|")
+    rows = [(f"{graph.stem}, {told}", graph, ("takeback", batches, PART // batches, 1))
+            for graph in graphs for told, batches in (("in batches of 1,000", PART // 1_000), ("as one batch", 1))]
+    rows += [(f"`path 100000 -- {what} 64`", ("path", "100000"), (what, 64)) for what in ("flip", "cycle")]
+    for told, graph, changes in rows:
+        path = series.made(graph, changes)
+        commands = [[series.peers / "peer_order"], *([series.kcore, "--workers", count] for count in "124")]
+        order, one, *more = series.turns(commands, path)
+        clocks = ", ".join(f"{each[1] / one[1]:.2f}" for each in more)
+        print(f"| {told} | {order[0]:.2f} | {one[0]:.2f} | {one[3]:.1f} | {clocks} |", flush=True)
+
+
 def small_batches(series, graphs):
     """A stream of batches of one update: what a batch takes, and whether the memory grows with them."""
     counts = (10_000, 100_000, 1_000_000)
@@ -273,6 +293,7 @@ def main():
         "rest": ("Core numbers of a graph at rest", static, graphs),
         "updates": ("10,000 random updates in 100 batches", batches, [graph for graph in graphs if not graph.stem.startswith(("star", "er-"))]),
         "large": ("One large batch", large_batches, real),
+        "back": ("Edges that go and come back", given_back, [graph for graph in graphs if graph.stem.endswith("-18")]),
         "workers": ("Several workers, the clock and the processor time beside one worker", workers,
                     [(graph, 100 if graph in small else 1000) for graph in mixed]),
         "check": ("A certificate that is checked, beside `cores numbers`", checks, mixed),
