@@ -152,7 +152,7 @@ def block():
     tried = [it.crate for it in found]
     left = [it for it in libraries() if it not in tried]
     lines = ["", *table(found), ""] if found else [""]
-    lines += [f"Of {len(libraries())} libraries {len(left) or 'none'} were not tried so far.", ""]
+    lines += [f"Not tried so far, of {len(libraries())} libraries: {len(left)}." if left else f"Each of {len(libraries())} libraries was tried.", ""]
     rows = [(it.crate, body) for it in found for body in [*it.proved, *(f"{bare}: {{ any }}" for bare in it.bare)]]
     if rows:
         lines += ["| Crate | Function and the body that was proved | Why |", "|---|---|---|"]
