@@ -74,8 +74,6 @@ impl Levels {
         let size = core.len() as u32;
         let list = list_with_heads(alloc, size, order, core)?;
         let vertex = vertex_words(alloc, size, core, stamps)?;
-        let levels = Vec::from_slice(alloc, core)?;
-        let kept = Vec::from_slice(alloc, stamps)?;
         let shape = Shape {
             items: 2 * size + 1,
             fixed: size,
@@ -83,6 +81,11 @@ impl Levels {
             version,
         };
         let (words, writer, pass) = Writer::open(alloc, shape, &list, &vertex)?;
+        // What only the opening takes goes before the copies, so that both never take memory together.
+        drop(list);
+        drop(vertex);
+        let levels = Vec::from_slice(alloc, core)?;
+        let kept = Vec::from_slice(alloc, stamps)?;
         let levels = Levels {
             writer,
             size,

@@ -9,7 +9,7 @@ use Rattle.kc_words.specs.declared.item.ItemWord.{ItemWord}
 use Rattle.kc_words.specs.declared.group.GroupWord.{GroupWord}
 use Rattle.kc_words.specs.declared.layout.TheConstants.{LAST_VERSION, BOTTOM_ROOM}
 use Rattle.kc_list.specs.declared.limits.TheConstants.{GROUP_ITEMS}
-use Rattle.kc_list.specs.declared.sheet.Write.{Write}
+use Rattle.kc_list.specs.Writes.{Write}
 use Rattle.kc_list.specs.Places.{WordsKeepList, evens}
 use Rattle.kc_list.specs.Sheets.{Paper, ChangesOnly}
 use Rattle.kc_list.specs.Views.{AreMembers, HaveMoved, IsSpare, IsTopAbove, KeepsOrder, version_at}

@@ -4,7 +4,7 @@ use Rattle.std.proofs.lemmas.List.{length-set, length-take-le}
 use Rattle.kc_words.specs.declared.item.ItemWord.{ItemWord}
 use Rattle.kc_words.specs.ItemWord.{item_of}
 use Rattle.kc_words.proofs.Packing.{none_version}
-use Rattle.kc_list.specs.declared.sheet.Write.{Write}
+use Rattle.kc_list.specs.Writes.{Write}
 use Rattle.kc_list.specs.Sheets.{version, highest_of}
 
 -- the greatest version after a store is that before it, or that of the new word where this is greater

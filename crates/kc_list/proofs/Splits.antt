@@ -22,7 +22,7 @@ use Rattle.kc_list.proofs.Spreading.{Ascends-at, length-evens, evens-ascend, Dis
 use Rattle.kc_list.proofs.Spreading.{WritesKeepOrder-none, WritesKeepOrder-push, stored-append, raises_from}
 use Rattle.kc_list.proofs.Spreading.{only-none, only-more, member-map}
 use Rattle.kc_list.specs.Sheets.{ChangesOnly, Paper, WritesKeepOrder, version, stored, OrderedAlong, RaisedAlong}
-use Rattle.kc_list.specs.declared.sheet.Write.{Write}
+use Rattle.kc_list.specs.Writes.{Write}
 use Rattle.kc_relabel.proofs.Once.{Distinct-at}
 use Rattle.kc_words.specs.declared.layout.TheConstants.{VERSION_BITS, ITEMS, BOTTOM_ROOM, TOP_ROOM}
 use Rattle.kc_list.specs.declared.limits.TheConstants.{GROUP_ITEMS}

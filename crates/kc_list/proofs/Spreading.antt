@@ -16,7 +16,7 @@ use Rattle.kc_lists.proofs.Members.{member-head, member-tail, member-cases, memb
 use Rattle.kc_words.specs.Order.{Labels, labels, Ordered}
 use Rattle.kc_list.specs.Places.{Before, Placed, WordsKeepList, Segment, ItemStored, evens}
 use Rattle.kc_list.specs.Sheets.{ChangesOnly, Paper, stored, OrderedAlong, RaisedAlong, Raises, WritesKeepOrder, version}
-use Rattle.kc_list.specs.declared.sheet.Write.{Write}
+use Rattle.kc_list.specs.Writes.{Write}
 use Rattle.kc_list.proofs.Order.{AtFirst, AtFirst-mono, AtLast-mono, Agrees, order-parts, order-joined, Before-agrees}
 use Rattle.kc_list.proofs.WritesWord.{item_stored}
 use Rattle.kc_list.proofs.Putting.{item_agrees, Placed-agrees, ordered_from}

@@ -12,7 +12,7 @@ use Rattle.kc_relabel.proofs.Rising.{Writes}
 use Rattle.kc_relabel.proofs.Once.{Distinct-at, place_at, length-places}
 use Rattle.kc_list.specs.Sheets.{Paper, version}
 use Rattle.kc_list.specs.Retops.{Topway}
-use Rattle.kc_list.specs.declared.sheet.Write.{Write}
+use Rattle.kc_list.specs.Writes.{Write}
 use Rattle.kc_list.proofs.Putting.{ordered_from}
 use Rattle.kc_list.proofs.Splits.{same_version}
 use Rattle.kc_lists.specs.Lists.{member, Distinct, InOrder}

@@ -13,7 +13,7 @@ use Rattle.kc_list.specs.Sheets.{Paper, WritesKeepOrder, Raises, RaisedAlong, st
 use Rattle.kc_list.specs.Plain.{Written}
 use Rattle.kc_list.specs.Tally.{TakesItem}
 use Rattle.kc_list.proofs.Counts.{size-agree}
-use Rattle.kc_list.specs.declared.sheet.Write.{Write}
+use Rattle.kc_list.specs.Writes.{Write}
 use Rattle.kc_list.proofs.Order.{order-parts, Before-then, Before-pairs}
 use Rattle.kc_list.proofs.Gathering.{all_before}
 use Rattle.kc_list.proofs.Spreading.{stored-append}

@@ -1,5 +1,6 @@
 -- What public contracts speak of.
 pub mod Places
+pub mod Writes
 pub mod Sheets
 pub mod Tally
 pub mod Plain

@@ -1,7 +1,7 @@
 -- What callers see of the list.
 use Rattle.std.specs.Prelude.{◌≡◌, ℕ, ◌+◌, ◌<◌, ◌≤◌, List, [], ◌∷◌, ◌++◌, slice_index, true}
 use Rattle.kc_lists.specs.Lists.{member}
-use Rattle.kc_list.specs.declared.sheet.Write.{Write}
+use Rattle.kc_list.specs.Writes.{Write}
 use Rattle.kc_words.specs.Order.{Ordered}
 use Rattle.kc_list.specs.Sheets.{Paper, stored, OrderedAlong, RaisedAlong}
 use Rattle.kc_list.specs.Tally.{AreGroupSizes}

@@ -2,7 +2,7 @@
 use Rattle.std.specs.Prelude.{◌≡◌, ℕ, ◌+◌, ◌<◌, List, [], ◌∷◌, ◌++◌, length, slice_index, slice_set, max, false}
 use Rattle.kc_lists.specs.Lists.{member}
 use Rattle.kc_words.specs.ItemWord.{item_of}
-use Rattle.kc_list.specs.declared.sheet.Write.{Write}
+use Rattle.kc_list.specs.Writes.{Write}
 use Rattle.kc_words.specs.Order.{Ordered}
 
 -- the words, the writes that were made of them, and how many writes there is room for

@@ -9,10 +9,11 @@ use std::alloc::Global;
 use std::marker::Model;
 
 /// The sizes of the groups, by group number; those that are 0 are also kept as a stack of free
-/// numbers. The groups are numbered from 1, and place 0 says nothing.
+/// numbers. The groups are numbered from 1, and place 0 says nothing. A size takes one byte: no group has more than `GROUP_ITEMS` items, but
+/// for one more while an item moves within it.
 #[derive(Drop)]
 pub struct Groups {
-    sizes: Vec<u32>,
+    sizes: Vec<u8>,
     free: Vec<u32>,
     free_count: usize,
 }
@@ -42,7 +43,7 @@ impl Groups {
         ensures sizes { IfOk result (λ a. (g : ℕ) → 0 < g → g ≤ items + 1
             → slice_index a g ≡ opening_count len g) }
     {
-        let mut sizes = vec![in alloc; 0u32; items as usize + 2]?;
+        let mut sizes = vec![in alloc; 0u8; items as usize + 2]?;
         let mut free = vec![in alloc; 0u32; items as usize + 1]?;
         fill_sizes(&mut sizes, len);
         fill_free(&mut free);
@@ -59,14 +60,14 @@ impl Groups {
         requires { group < length self.now }
         ensures { result ≡ slice_index self.now group }
     {
-        self.sizes[group as usize]
+        u32::from(self.sizes[group as usize])
     }
 
     /// An item joins a group that has items.
     pub fn enter(&mut self, group: u32)
         requires within { group < length self.old }
         requires used { 0 < slice_index self.old group }
-        requires fits { slice_index self.old group < 2 ^ 31 }
+        requires fits { slice_index self.old group ≤ GROUP_ITEMS }
         ensures { self.new ≡ slice_set self.old group (slice_index self.old group + 1) }
     {
         let size = self.sizes[group as usize];
@@ -100,21 +101,21 @@ impl Groups {
     {
         self.free_count -= 1;
         let fresh = self.free[self.free_count];
-        self.sizes[group as usize] = HALF_ITEMS;
-        self.sizes[fresh as usize] = HALF_ITEMS;
+        self.sizes[group as usize] = HALF_ITEMS as u8;
+        self.sizes[fresh as usize] = HALF_ITEMS as u8;
         fresh
     }
 }
 
 /// The sizes at the opening, by group number; place 0 stays.
-fn fill_sizes(sizes: &mut [u32], len: u32)
+fn fill_sizes(sizes: &mut [u8], len: u32)
     requires { length sizes.old ≤ ITEMS + 2 }
     ensures none { slice_index sizes.new 0 ≡ slice_index sizes.old 0 }
     ensures sizes { (g : ℕ) → 0 < g → g < length sizes.old → slice_index sizes.new g ≡ opening_count len g }
 {
     for g in 1..sizes.len() {
         let before = OPENING_ITEMS * (g as u32 - 1);
-        sizes[g] = len.saturating_sub(before).min(OPENING_ITEMS);
+        sizes[g] = len.saturating_sub(before).min(OPENING_ITEMS) as u8;
     }
 }
 

@@ -9,7 +9,7 @@
 //! each write raises its word's version by one; no word is written more than once in a call, but for
 //! the moved item's, which is written at most twice; no call after `open` takes memory.
 //!
-//! How it is kept, from the bottom up: `sheet` has the words and the writes, `groups` the sizes of the
+//! How it is kept, from the bottom up: `write` is one write, `sheet` has the words and the writes, `groups` the sizes of the
 //! groups, `kc_links` the neighbours of each item. `labelled` has the three in one list, which its labels
 //! order also between two writes; the modules after it are its methods. `gather` lists a group, `spread`
 //! and `tops` give it or all groups new labels, `split` moves its upper half. `room` and `halve` decide
@@ -31,8 +31,9 @@ mod sheet;
 mod split;
 mod spread;
 mod tops;
+mod write;
 
 pub use limits::{GROUP_ITEMS, HALF_ITEMS, HALF_STEP, ITEM_WRITES, OPENING_ITEMS};
 pub use plain::PlainOrder;
-pub use sheet::Write;
 pub use std::alloc::AllocError as NoMemory;
+pub use write::Write;

@@ -4,16 +4,10 @@ ghost use Rattle.kc_words.specs.ItemWord.{item_of};
 ghost use Rattle.kc_list.specs.Sheets.{Paper, version, highest_of};
 
 use crate::NoMemory;
+use crate::write::Write;
 use kc_words::ItemWord;
 use std::alloc::Global;
 use std::marker::Model;
-
-/// What is to be stored to a word of the table.
-#[derive(Clone, Copy, Drop)]
-pub struct Write {
-    pub word: u32,
-    pub value: u64,
-}
 
 #[derive(Drop)]
 pub struct Sheet {
@@ -42,7 +36,7 @@ impl Sheet {
         requires { highest ≡ highest_of words.items }
         ensures { IfOk result (λ a. a ≡ record { words = words.items; writes = []; room = room }) }
     {
-        let blank = Write { word: 0, value: 0 };
+        let blank = Write::new(0, 0);
         let buffer = vec![in alloc; blank; room]?;
         Ok(Sheet {
             words,
@@ -70,7 +64,7 @@ impl Sheet {
         ensures room { self.new.room ≡ self.old.room }
     {
         self.words[word as usize] = value;
-        self.buffer[self.count] = Write { word, value };
+        self.buffer[self.count] = Write::new(word, value);
         self.count += 1;
         self.highest = self.highest.max(ItemWord::of(value).version);
     }

@@ -12,7 +12,7 @@ use Rattle.kc_words.specs.declared.layout.TheConstants.{LAST_VERSION}
 use Rattle.kc_words.specs.declared.note.NoteWord.{NoteWord}
 use Rattle.kc_words.specs.declared.note.NoteWord.TheVariants.{Nothing, Enter, Put, Take}
 use Rattle.kc_words.specs.declared.shape.Shape.{Shape}
-use Rattle.kc_list.specs.declared.sheet.Write.{Write}
+use Rattle.kc_list.specs.Writes.{Write}
 use Rattle.kc_list.specs.Sheets as sheet
 use Rattle.kc_table.specs.declared.view.Event.{Event}
 use Rattle.kc_table.specs.Log.{event}

@@ -14,7 +14,7 @@ use Rattle.kc_words.specs.declared.layout.TheConstants.{ITEM_BITS, LAST_VERSION}
 use Rattle.kc_words.specs.declared.note.NoteWord.{NoteWord}
 use Rattle.kc_words.specs.declared.note.NoteWord.TheVariants.{Put, Take}
 use Rattle.kc_words.specs.declared.shape.Shape.{Shape}
-use Rattle.kc_list.specs.declared.sheet.Write.{Write}
+use Rattle.kc_list.specs.Writes.{Write}
 use Rattle.kc_list.specs.Sheets as sheet
 use Rattle.kc_list.specs.Plain.{Plain, Written}
 use Rattle.kc_list.proofs.Highest.{version-highest, highest-below}

@@ -15,7 +15,7 @@ pub(crate) fn store_each(words: &Words, seat: &mut WriterSeat, writes: &[Write])
     ensures { seat.new ≡ record { table = seat.old.table; log = seat.old.log ++ stores_of writes.now } }
 {
     for write in writes {
-        store(words, seat, write.word, write.value);
+        store(words, seat, write.word(), write.value());
     }
 }
 

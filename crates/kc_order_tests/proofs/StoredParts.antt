@@ -1,7 +1,7 @@
 -- Stores that are made in parts.
 use Rattle.std.proofs.Common.{◌≡◌, ℕ, List, [], ◌∷◌, ◌++◌, take, drop, refl, sym, ap, ◌∙◌, subst, append_assoc}
 use Rattle.std.proofs.lemmas.List.{take-append-drop}
-use Rattle.kc_list.specs.declared.sheet.Write.{Write}
+use Rattle.kc_list.specs.Writes.{Write}
 use Rattle.kc_table.specs.declared.view.Event.{Event}
 use Rattle.kc_table.specs.Log.{Seen, event}
 use Rattle.kc_table.specs.Legal.{Legal}

@@ -66,7 +66,7 @@ fn check_middle(rt: &impl Abort, order: &mut PlainOrder)
         group: first.group,
         bottom: 3_072,
     };
-    assert_eq!(rt; (write.word, ItemWord::of(write.value)), (2, middle));
+    assert_eq!(rt; (write.word(), ItemWord::of(write.value())), (2, middle));
 }
 
 #[test]
@@ -111,9 +111,9 @@ fn check_split(rt: &impl Abort, order: &mut PlainOrder)
     put(rt, order, 64, 0);
     let writes = order.writes();
     assert_eq!(rt; writes.len(), 34);
-    let moved = ItemWord::of(writes[1].value);
+    let moved = ItemWord::of(writes[1].value());
     assert_eq!(rt;
-        [writes[0].word, writes[1].word, writes[33].word],
+        [writes[0].word(), writes[1].word(), writes[33].word()],
         [100 + moved.group, 64, 65]
     );
 }
@@ -178,7 +178,7 @@ impl Relabels {
     /// Counts what a call of a list of `items` items wrote. Where it neither splits a group nor
     /// spreads all of them, it writes at most the words of the items of a group.
     fn count(&mut self, rt: &impl Abort, items: u32, writes: &[Write]) {
-        let tops = writes.iter().filter(|write| write.word > items).count();
+        let tops = writes.iter().filter(|write| write.word() > items).count();
         if tops > 1 {
             self.respreads = self.respreads.wrapping_add(1);
             return;

@@ -99,10 +99,7 @@ fn with_note(alloc: Global, writes: &[Write], note: NoteWord) -> Result<Vec<Writ
 {
     let (front, end) = writes.split_at(writes.len() - 1);
     let mut stores = front.to_vec(alloc)?;
-    stores.push(Write {
-        word: 0,
-        value: note.pack(),
-    })?;
+    stores.push(Write::new(0, note.pack()))?;
     stores.extend_from_slice(end)?;
     Ok(stores)
 }
@@ -114,7 +111,7 @@ fn store_each(words: &Words, seat: &mut WriterSeat, writes: &[Write])
     ensures { seat.new ≡ record { table = seat.old.table; log = seat.old.log ++ stores_of writes.now } }
 {
     for write in writes {
-        store(words, seat, write.word, write.value);
+        store(words, seat, write.word(), write.value());
     }
 }
 

@@ -2,7 +2,7 @@
 use Rattle.std.proofs.Common.{◌≡◌, ◌+◌, ◌++◌, ◌∷◌, [], ℕ, refl, ap, sym, ◌∙◌, get_or, set, arith}
 use Rattle.std.proofs.lemmas.List.{get_or-set_same}
 use Rattle.kc_words.specs.ItemWord.{item_of}
-use Rattle.kc_list.specs.declared.sheet.Write.{Write}
+use Rattle.kc_list.specs.Writes.{Write}
 use Rattle.kc_list.proofs.Splits.{same_version}
 use Rattle.kc_list.proofs.labelled.LabelledList.store_group.Goals as goal
 
