@@ -1,4 +1,5 @@
 pub mod Cuts
 pub mod Holding
 pub mod Naming
+pub mod Numbering
 pub mod Reading

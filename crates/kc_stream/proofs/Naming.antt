@@ -18,7 +18,6 @@ use Rattle.kc_text.specs.Meaning.{Told, changes, ends, ends_of, names, with_line
 use Rattle.kc_text.proofs.Counts.{ends-push}
 use Rattle.kc_text.proofs.Places.{place-below}
 use Rattle.kc_text.proofs.Telling.{changes-more, names-batch}
-use Rattle.std.specs.HashMap.{HashMap, get}
 use Rattle.kc_stream.specs.Ids.{HasNumbers, ids_of, number_of, with_name, with_names}
 
 -- each id of the first is one of the second, under the same number
@@ -256,16 +255,16 @@ number-none ids x is = elim (cases_Bool (is_member nat_eq ids x)) [
     none-some : {a : ℕ} → None ≡ Some a → ⊥
     none-some e = cc
 
--- a map of numbers, with that of a new id
-pub numbers-put : {S : Type 0} (ids : List ℕ) (old new : HashMap ℕ ℕ S) (id : ℕ) → HasNumbers ids old → get nat_eq old id ≡ None
-    → ((q : ℕ) → get nat_eq new q ≡ cond (nat_eq id q) (Some (length ids)) (get nat_eq old q)) → HasNumbers (ids ++ id ∷ []) new
+-- numbers, with that of a new id
+pub numbers-put : (ids : List ℕ) (old new : ℕ → Option ℕ) (id : ℕ) → HasNumbers ids old → old id ≡ None
+    → ((q : ℕ) → new q ≡ cond (nat_eq id q) (Some (length ids)) (old q)) → HasNumbers (ids ++ id ∷ []) new
 numbers-put ids old new id has none put = λ q.
     put q ∙ ap (λ (o : Option ℕ). cond (nat_eq id q) (Some (length ids)) o) (has q)
     ∙ sym (number-push ids id q (number-none ids id (sym (has id) ∙ none)))
 
--- a map of numbers, without that of the last id
-pub numbers-cut : {S : Type 0} (ids : List ℕ) (old new : HashMap ℕ ℕ S) (id : ℕ) → HasNumbers (ids ++ id ∷ []) old → Distinct (ids ++ id ∷ [])
-    → ((q : ℕ) → get nat_eq new q ≡ cond (nat_eq id q) None (get nat_eq old q)) → HasNumbers ids new
+-- numbers, without that of the last id
+pub numbers-cut : (ids : List ℕ) (old new : ℕ → Option ℕ) (id : ℕ) → HasNumbers (ids ++ id ∷ []) old → Distinct (ids ++ id ∷ [])
+    → ((q : ℕ) → new q ≡ cond (nat_eq id q) None (old q)) → HasNumbers ids new
 numbers-cut ids old new id has once cut = λ q.
     let out : is_member nat_eq ids id ≡ false = (Distinct-cut id ids [] once).0 in
     cut q ∙ ap (λ (o : Option ℕ). cond (nat_eq id q) None o) (has q ∙ number-push ids id q out) ∙ (elim (cases_Bool (nat_eq id q)) [

@@ -1,6 +1,5 @@
 -- Ids in the order of their first coming, and the numbers that stand for them.
 use Rattle.std.specs.Prelude.{◌≡◌, ℕ, List, [], ◌∷◌, ◌++◌, Option, Some, None, fold, nat_eq, if◌then◌else◌}
-use Rattle.std.specs.HashMap.{HashMap, get}
 use Rattle.std.specs.Set.{is_member}
 use Rattle.kc_text.specs.Inputs.{place}
 use Rattle.kc_text.specs.Meaning.{Told, names}
@@ -22,6 +21,6 @@ ids_of told = with_names [] (names told)
 abbrev pub number_of : List ℕ → ℕ → Option ℕ
 number_of ids id = if is_member nat_eq ids id then Some (place ids id) else None
 
--- the map has the number of each id, and no other
-abbrev pub HasNumbers : {S : Type 0} → List ℕ → HashMap ℕ ℕ S → Type 0
-HasNumbers ids numbers = (id : ℕ) → get nat_eq numbers id ≡ number_of ids id
+-- the numbers are those of these ids, and no other id has one
+abbrev pub HasNumbers : List ℕ → (ℕ → Option ℕ) → Type 0
+HasNumbers ids numbers = (id : ℕ) → numbers id ≡ number_of ids id

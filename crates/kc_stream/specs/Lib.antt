@@ -4,3 +4,4 @@ pub mod Ended
 pub mod Gathering
 pub mod Hearing
 pub mod Ids
+pub mod Numbers

@@ -7,22 +7,17 @@ ghost use Rattle.kc_words.specs.declared.layout.TheConstants.{VERTICES};
 ghost use Rattle.kc_stream.specs.Ids.{number_of, with_name, with_names};
 
 use crate::NoMemory;
+use crate::id_numbers::IdNumbers;
 use kc_words::VERTICES;
 use std::alloc::Global;
-use std::collections::HashMap;
 use std::marker::Model;
-
-/// There are at most so many hints for each id, and as many more.
-const HINTS_FOR_AN_ID: usize = 2;
 
 /// Ids in the order of their first coming. The number that stands for an id is its place among them, from 0. There are no more than a
 /// graph may have vertices.
 #[derive(Drop)]
 pub struct Ids {
     names: Vec<u32>,
-    numbers: HashMap<u32, u32>,
-    /// Under an id that is not large beside the count of all, a number that may stand for it. It does where that number's id is this one.
-    hints: Vec<u32>,
+    numbers: IdNumbers,
 }
 
 impl Model for Ids {
@@ -30,12 +25,14 @@ impl Model for Ids {
     ghost use Rattle.kc_lists.specs.Lists.{Distinct};
     ghost use Rattle.kc_words.specs.declared.layout.TheConstants.{VERTICES};
     ghost use Rattle.kc_stream.specs.Ids.{HasNumbers};
+    ghost use Rattle.kc_stream.specs.Numbers.{number_in};
 
     ghost Value = { List ℕ };
 
     ghost view = { λ ids. ids.names.items };
 
-    ghost invariant = { λ ids. HasNumbers ids.names.items ids.numbers × Distinct ids.names.items × (length ids.names.items ≤ VERTICES) };
+    ghost invariant = { λ ids. HasNumbers ids.names.items (number_in ids.numbers.table.items ids.numbers.others) × Distinct ids.names.items
+        × (length ids.names.items ≤ VERTICES) };
 }
 
 impl Ids {
@@ -45,8 +42,7 @@ impl Ids {
     {
         Ids {
             names: Vec::new(alloc),
-            numbers: HashMap::new(alloc),
-            hints: Vec::new(alloc),
+            numbers: IdNumbers::new(alloc),
         }
     }
 
@@ -69,68 +65,7 @@ impl Ids {
     pub fn number(&self, id: u32) -> Option<u32>
         ensures { result ≡ number_of self.now id }
     {
-        self.numbers.get(&id).copied()
-    }
-
-    /// The number that stands for an id, where a hint tells it.
-    fn hinted(&self, id: u32) -> Option<u32>
-        ensures number { IfSome result (λ v. (v < length self.now) × (v ≡ place self.now id) × (is_member nat_eq self.now id ≡ true)) }
-        ensures few { length self.now ≤ VERTICES }
-    {
-        let number = *self.hints.get(id as usize)?;
-        let name = *self.names.get(number as usize)?;
-        if name == id { Some(number) } else { None }
-    }
-
-    /// Keeps the number that stands for an id as a hint, unless the id is large beside the count of all, or there is no memory for it.
-    fn keep_hint(&mut self, id: u32, number: Option<u32>)
-        ensures { self.new ≡ self.old }
-    {
-        let Some(number) = number else {
-            return;
-        };
-        let place = id as usize;
-        if place < self.hints.len() {
-            self.hints[place] = number;
-            return;
-        }
-        if place / HINTS_FOR_AN_ID <= self.names.len() {
-            self.put_hint(place, number);
-        }
-    }
-
-    /// Keeps a hint behind the others, where there is memory for it.
-    fn put_hint(&mut self, place: usize, number: u32)
-        ensures { self.new ≡ self.old }
-    {
-        if self.hints.resize(place, 0).is_ok() {
-            // Where there is no memory, the number is not hinted.
-            let _ = self.hints.push(number);
-        }
-    }
-
-    /// The number that stands for an id, by the map. An id that is new is put behind the others.
-    fn find_or_put(&mut self, id: u32) -> Result<Option<u32>, NoMemory>
-        ensures number { IfOk result (λ number. MatchOption number (VERTICES < length (with_name self.old id))
-            (λ v. (self.new ≡ with_name self.old id) × (v ≡ place self.new id) × (is_member nat_eq self.new id ≡ true))) }
-        ensures none { IfOk result (λ number. MatchOption number (self.new ≡ self.old) (λ v. v < length self.new)) }
-        ensures same { OnErr result (self.new ≡ self.old) }
-        ensures kept { StartsWith self.new self.old }
-        ensures few { length self.new ≤ VERTICES }
-    {
-        if let Some(number) = self.numbers.get(&id).copied() {
-            return Ok(Some(number));
-        }
-        let number = self.names.len();
-        if number >= VERTICES as usize {
-            return Ok(None);
-        }
-        self.names.reserve(1)?;
-        self.numbers.insert(id, number as u32)?;
-        if self.names.push(id).is_err() {
-            unreachable!();
-        }
-        Ok(Some(number as u32))
+        self.numbers.get(id)
     }
 
     /// The number that stands for an id, which is put behind the others where it is new; none where there would be too many ids. Where
@@ -143,12 +78,19 @@ impl Ids {
         ensures kept { StartsWith self.new self.old }
         ensures few { length self.new ≤ VERTICES }
     {
-        if let Some(number) = self.hinted(id) {
+        if let Some(number) = self.numbers.get(id) {
             return Ok(Some(number));
         }
-        let number = self.find_or_put(id)?;
-        self.keep_hint(id, number);
-        Ok(number)
+        let number = self.names.len();
+        if number >= VERTICES as usize {
+            return Ok(None);
+        }
+        self.names.reserve(1)?;
+        self.numbers.put(id, number as u32)?;
+        if self.names.push(id).is_err() {
+            unreachable!();
+        }
+        Ok(Some(number as u32))
     }
 
     /// The numbers that stand for two ids, which are put behind the others where they are new, the first one first; none where there would
@@ -175,7 +117,7 @@ impl Ids {
         ensures { self.new ≡ take (length self.old - 1) self.old }
     {
         if let Some(name) = self.names.pop() {
-            self.numbers.remove(&name);
+            self.numbers.remove(name);
         }
     }
 

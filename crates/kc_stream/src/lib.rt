@@ -3,7 +3,7 @@
 //!
 //! A stream has the lines of `kc_text`: edges, and behind them batches of changes. Among the changes a line may also ask. A stream has no
 //! end that anyone waits for, so what is kept is that of the graph and of one batch, and not of the stream. `specs/Asking` says which line
-//! is which question, `specs/Ids` which number stands for an id, `specs/Hearing` what lines come to, one after another, and `specs/Ended`
+//! is which question, `specs/Ids` which number stands for an id, `specs/Numbers` where it is kept, `specs/Hearing` what lines come to, one after another, and `specs/Ended`
 //! which bytes are lines that have ended. [`read_stream_line`] reads a line, [`Gathered`] takes lines, and [`ended_len`] cuts a piece of a
 //! stream behind its last line end. The crate stands on `kc_text` for what a line says, and on `kc_graph` for updates.
 #![tactic(auto)]
@@ -11,6 +11,7 @@
 mod bad_lines;
 mod ended;
 mod gathered;
+mod id_numbers;
 mod ids;
 mod question;
 mod stream_line;
