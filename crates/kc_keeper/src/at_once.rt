@@ -6,8 +6,10 @@ ghost use Rattle.kc_keeper.specs.Causes.{EndsAreWithin};
 ghost use Rattle.kc_keeper.specs.Cores.{AreCoreChanges};
 ghost use Rattle.kc_keeper.specs.Telling.{IsToldOf};
 
+use crate::bulk::{add_in_bulk, adds_many};
 use crate::changes::{Changes, CoreChange};
 use kc_graph::{Graph, NoMemory, Update};
+use std::alloc::Global;
 
 /// A batch of so few updates is never large.
 const ALWAYS_SMALL: usize = 50;
@@ -36,9 +38,9 @@ fn make_in(graph: &mut Graph, update: Update) -> Result<bool, NoMemory>
     }
 }
 
-/// Makes updates in turn in a graph, and tells which changed it. Where memory runs out on the way, what graph and `changes` hold means
-/// nothing.
-pub(crate) fn make_all_in(
+/// Makes updates one after the other in a graph, and tells which changed it. Where memory runs out on the way, what graph and `changes` hold
+/// means nothing.
+fn make_each_in(
     graph: &mut Graph,
     updates: &[Update],
     changes: &mut Changes,
@@ -54,6 +56,30 @@ pub(crate) fn make_all_in(
         changes.tell(*update, applied);
     }
     Ok(())
+}
+
+/// Makes updates in turn in a graph, and tells which changed it: in bulk where they add many edges and none twice. Where memory runs out on
+/// the way, what graph and `changes` hold means nothing.
+pub(crate) fn make_all_in(
+    alloc: Global,
+    graph: &mut Graph,
+    updates: &[Update],
+    changes: &mut Changes,
+) -> Result<(), NoMemory>
+    requires within { EndsAreWithin graph.old.size updates.now }
+    requires nothing { IsToldOf graph.old [] changes.old }
+    ensures graph { OnOk result (graph.new ≡ made_in_turn graph.old updates.now) }
+    ensures told { OnOk result (IsToldOf graph.old updates.now changes.new) }
+{
+    if !adds_many(graph.edges(), updates) {
+        return make_each_in(graph, updates, changes);
+    }
+    if let Some(next) = add_in_bulk(alloc, graph, updates, changes)? {
+        *graph = next;
+        return Ok(());
+    }
+    changes.clear();
+    make_each_in(graph, updates, changes)
 }
 
 /// Makes a list of the vertices whose number is another one than before, in ascending order, with both numbers. What the list held before is

@@ -327,7 +327,7 @@ impl Keeper {
         let _vertices = self.vertices();
         changes.clear();
         let mut graph = self.graph().to_graph(alloc)?;
-        make_all_in(&mut graph, updates, changes)?;
+        make_all_in(alloc, &mut graph, updates, changes)?;
         let lawful = decompose_owned(alloc, graph)?;
         tell_cores(self.core_numbers(), lawful.core(), &mut changes.cores)?;
         self.go_on_with(alloc, lawful)

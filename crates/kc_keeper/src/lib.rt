@@ -13,6 +13,7 @@
 #![tactic(auto)]
 
 mod at_once;
+mod bulk;
 mod changes;
 mod earlier;
 mod entering;

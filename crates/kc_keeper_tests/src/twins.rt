@@ -16,7 +16,7 @@ pub(crate) struct Twins {
 }
 
 /// A keeper of so many vertices without edges.
-fn open<R: Abort + AllocGlobal>(rt: &R, vertices: u32) -> Keeper {
+pub(crate) fn open<R: Abort + AllocGlobal>(rt: &R, vertices: u32) -> Keeper {
     let graph = Graph::new(rt.alloc(), vertices).expect(rt, "no memory");
     let lawful = decompose_owned(rt.alloc(), graph).expect(rt, "no memory");
     Keeper::open(rt.alloc(), lawful).expect(rt, "no memory")

@@ -1,10 +1,8 @@
 -- One update more is made in the graph, and told of with whether it changed it.
-use Rattle.std.proofs.Common.{List, [], ◌∷◌, ◌++◌, cond, ap, ◌∙◌, subst}
-use Rattle.std.specs.Prelude.{IfOk}
-use Rattle.kc_graph.specs.Plans.{is_applied, updated}
+use Rattle.std.proofs.Common.{List, [], ◌∷◌, ◌++◌, cond, ap, ◌∙◌}
 use Rattle.kc_graph.specs.declared.update.Update.{Update}
 use Rattle.kc_keeper.proofs.InTurn.{one-more_in, told-more}
-use Rattle.kc_keeper.proofs.at_once.make_all_in.Goals as goal
+use Rattle.kc_keeper.proofs.at_once.make_each_in.Goals as goal
 
 pub loop-update-preserved : goal.loop-update-preserved
 loop-update-preserved c =
