@@ -5,6 +5,9 @@
 //! them. Behind a line that is refused it reads on to the end, so that a read that fails there is still told as such. [`read_edges`] does
 //! so for whom the batches don't concern: the ids and the edges come as they were told, and nothing is sorted.
 //!
+//! [`read_input_by`] and [`read_edges_by`] give the same, and have the lines of a piece read in parts, which several threads may do. They
+//! ask for larger pieces then.
+//!
 //! The crate stands on `kc_io` and `kc_text`.
 #![tactic(auto)]
 
@@ -21,15 +24,31 @@ ghost use Rattle.kc_read.specs.Reading.{AreEdgesWithin, IsInputWithin};
 
 pub use fault::InputFault;
 use kc_io::source::Source;
-use kc_text::{Input, Limits, NamedEdges, TextReader};
+use kc_text::{Input, Limits, NamedEdges, OneThread, PartsReader, TextReader};
 use std::alloc::Global;
 
 /// The most bytes that are asked for at once.
 const PIECE_BYTES: usize = 1_048_576;
 
+/// The most bytes that are asked for at once where several threads read them. Room for more costs each short run some milliseconds.
+const SHARED_PIECE_BYTES: usize = 2_097_152;
+
+/// How many bytes are asked for at once, by how many threads read them.
+fn piece_bytes(threads: u32) -> usize
+    ensures { 0 < result }
+{
+    if threads > 1 {
+        SHARED_PIECE_BYTES
+    } else {
+        PIECE_BYTES
+    }
+}
+
 /// Reads the next bytes of the source into `piece`, and feeds the reader with them. Gives their number; 0 is the end of the source.
-fn feed_next<S: Source>(
+fn feed_next<P: PartsReader, S: Source>(
     alloc: Global,
+    hands: &P,
+    threads: u32,
     source: &mut S,
     piece: &mut [u8],
     reader: &mut TextReader,
@@ -46,13 +65,15 @@ fn feed_next<S: Source>(
     ensures unjudged { (r : Refusal) → result ≢ Err (InputFault.Refused r) }
 {
     let n = source.read(piece)?;
-    reader.feed(alloc, &piece[..n])?;
+    reader.feed_by(alloc, hands, threads, &piece[..n])?;
     Ok(n)
 }
 
 /// Feeds a new reader with all bytes of the source, or with more than its limits allow, in pieces that fill the room or less.
-fn feed_all<S: Source>(
+fn feed_all<P: PartsReader, S: Source>(
     alloc: Global,
+    hands: &P,
+    threads: u32,
     source: &mut S,
     room: &mut [u8],
     reader: &mut TextReader,
@@ -70,7 +91,7 @@ fn feed_all<S: Source>(
     let mut left = reader.limits.bytes;
     loop {
         let most = left.min(room.len() - 1) + 1;
-        let n = feed_next(alloc, source, &mut room[..most], reader)?;
+        let n = feed_next(alloc, hands, threads, source, &mut room[..most], reader)?;
         if n == 0 || left < n {
             return Ok(());
         }
@@ -79,8 +100,10 @@ fn feed_all<S: Source>(
 }
 
 /// A reader that was fed with all bytes of the source, or with more than the limits allow.
-fn fed_reader<S: Source>(
+fn fed_reader<P: PartsReader, S: Source>(
     alloc: Global,
+    hands: &P,
+    threads: u32,
     source: &mut S,
     limits: Limits,
 ) -> Result<TextReader, InputFault>
@@ -93,8 +116,8 @@ fn fed_reader<S: Source>(
     ensures unjudged { (r : Refusal) → result ≢ Err (InputFault.Refused r) }
 {
     let mut reader = TextReader::new(alloc, limits);
-    let mut room = vec![in alloc; 0u8; PIECE_BYTES]?;
-    feed_all(alloc, source, &mut room, &mut reader)?;
+    let mut room = vec![in alloc; 0u8; piece_bytes(threads)]?;
+    feed_all(alloc, hands, threads, source, &mut room, &mut reader)?;
     Ok(reader)
 }
 
@@ -138,7 +161,46 @@ pub fn read_input<S: Source>(
     ensures later { S.faults source.old ≤ S.faults source.new }
     ensures read_fault { IsErrOf result InputFault.ReadFault → Rose (S.faults source.old) (S.faults source.new) }
 {
-    let reader = fed_reader(alloc, source, limits)?;
+    read_input_by(alloc, &OneThread, 1, source, limits)
+}
+
+/// The input that all bytes of the source mean within limits, as of `read_input`. Where `threads` is 2 or more, `hands` reads the lines
+/// of each piece in parts first, as for so many threads. The answer hangs on neither.
+///
+/// # Example
+///
+/// ```rust
+/// use kc_io::mem_source::MemSource;
+/// use kc_read::read_input_by;
+/// use kc_text::{Limits, OneThread};
+///
+/// let text = Vec::from_slice(alloc, b"1 2\nbatch\n+ 2 3\n")?;
+/// let mut source = MemSource::new(text, 4, Vec::new(alloc)); // four bytes at a time
+/// let input = read_input_by(alloc, &OneThread, 2, &mut source, Limits::KCORE)?;
+/// let ids = input.ids.as_slice(); // 1, 2, 3
+/// ```
+pub fn read_input_by<P: PartsReader, S: Source>(
+    alloc: Global,
+    hands: &P,
+    threads: u32,
+    source: &mut S,
+    limits: Limits,
+) -> Result<Input, InputFault>
+    ensures input { IfOk result (IsInputWithin limits (S.left source.old)) }
+    ensures ended { OnOk result (IsAtEnd (S.left source.new)) }
+    ensures few { IfOk result (λ input. length input.ids.items ≤ limits.ids) }
+    ensures few_batches { IfOk result (λ input. length input.batches.items ≤ limits.batches) }
+    ensures short { IfOk result (λ input. All (λ batch. length batch.updates.items ≤ limits.updates) input.batches.items) }
+    ensures counts { IfOk result (λ input. All (λ batch. batch.overruled ≤ limits.updates) input.batches.items) }
+    ensures batches { IfOk result (λ input. All (λ batch. IsBatch (length input.ids.items) batch.updates.items) input.batches.items) }
+    ensures refused { (r : Refusal) → IsErrOf result (InputFault.Refused r)
+        → IfSome (S.left source.old) (λ all. meaning limits all ≡ Refuses r.line r.kind) }
+    ensures given { (given : List ℕ) × Consumes (S.left source.old) (S.left source.new) given × (length given ≤ limits.bytes + 1) }
+    ensures faultless { result ≢ Err InputFault.ReadFault → S.faults source.new ≡ S.faults source.old }
+    ensures later { S.faults source.old ≤ S.faults source.new }
+    ensures read_fault { IsErrOf result InputFault.ReadFault → Rose (S.faults source.old) (S.faults source.new) }
+{
+    let reader = fed_reader(alloc, hands, threads, source, limits)?;
     Ok(reader.finish(alloc)?)
 }
 
@@ -174,6 +236,42 @@ pub fn read_edges<S: Source>(
     ensures later { S.faults source.old ≤ S.faults source.new }
     ensures read_fault { IsErrOf result InputFault.ReadFault → Rose (S.faults source.old) (S.faults source.new) }
 {
-    let reader = fed_reader(alloc, source, limits)?;
+    read_edges_by(alloc, &OneThread, 1, source, limits)
+}
+
+/// The ids and the edges that all bytes of the source tell within limits, as of `read_edges`. Where `threads` is 2 or more, `hands` reads the
+/// lines of each piece in parts first, as for so many threads. The answer hangs on neither.
+///
+/// # Example
+///
+/// ```rust
+/// use kc_io::mem_source::MemSource;
+/// use kc_read::read_edges_by;
+/// use kc_text::{Limits, OneThread};
+///
+/// let text = Vec::from_slice(alloc, b"7 5\n5 9\n9 5\n")?;
+/// let mut source = MemSource::new(text, 4, Vec::new(alloc)); // four bytes at a time
+/// let named = read_edges_by(alloc, &OneThread, 2, &mut source, Limits::GRAPH)?;
+/// let edges = named.edges.as_slice(); // (0, 1), (0, 2), (0, 2): as they were told
+/// ```
+pub fn read_edges_by<P: PartsReader, S: Source>(
+    alloc: Global,
+    hands: &P,
+    threads: u32,
+    source: &mut S,
+    limits: Limits,
+) -> Result<NamedEdges, InputFault>
+    ensures edges { IfOk result (AreEdgesWithin limits (S.left source.old)) }
+    ensures ended { OnOk result (IsAtEnd (S.left source.new)) }
+    ensures few { IfOk result (λ named. length named.ids.items ≤ limits.ids) }
+    ensures within { IfOk result (λ named. All (λ p. (p.0 < p.1) × (p.1 < length named.ids.items)) named.edges.items) }
+    ensures refused { (r : Refusal) → IsErrOf result (InputFault.Refused r)
+        → IfSome (S.left source.old) (λ all. meaning limits all ≡ Refuses r.line r.kind) }
+    ensures given { (given : List ℕ) × Consumes (S.left source.old) (S.left source.new) given × (length given ≤ limits.bytes + 1) }
+    ensures faultless { result ≢ Err InputFault.ReadFault → S.faults source.new ≡ S.faults source.old }
+    ensures later { S.faults source.old ≤ S.faults source.new }
+    ensures read_fault { IsErrOf result InputFault.ReadFault → Rose (S.faults source.old) (S.faults source.new) }
+{
+    let reader = fed_reader(alloc, hands, threads, source, limits)?;
     Ok(reader.finish_edges(alloc)?)
 }

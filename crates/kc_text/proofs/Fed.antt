@@ -6,11 +6,13 @@ use Rattle.kc_text.specs.declared.limits.Limits.{Limits}
 use Rattle.kc_text.specs.declared.line.TextLine.{TextLine}
 use Rattle.kc_text.specs.declared.reading.LineReader.{LineReader}
 use Rattle.kc_text.specs.declared.text_reader.TextReader.{TextReader}
-use Rattle.kc_text.specs.Feeding.{KeepsUp, WasFed, WasFedWithin}
+use Rattle.kc_text.specs.Feeding.{CanTake, KeepsUp, WasFed, WasFedWithin}
 use Rattle.kc_text.specs.Forms.{all_said}
 use Rattle.kc_text.specs.Lines.{EndsLine}
 use Rattle.kc_text.specs.Meaning.{Refuses, meaning, nothing_told, reading}
 use Rattle.kc_text.specs.Readings.{CanRead, Reads}
+use Rattle.kc_text.specs.TellingLines.{edge_lines}
+use Rattle.kc_text.proofs.PartLines.{few-edges}
 use Rattle.kc_text.proofs.SaidAppend.{ends-append, ends-behind, said-append}
 
 -- what a text within the limit means is what the reading of its lines tells
@@ -157,3 +159,29 @@ pub fed-over_more : (old new : TextReader) (fed piece : List ℕ) → old.left �
 fed-over_more old new fed piece says none same h =
     let over = fed-over old fed says h in
     over-more old new fed piece none same (omega (arith, length-append fed piece))
+
+-- bytes that may be taken in one go are allowed
+pub keeps_up-plain : (reader : TextReader) (fed : List ℕ) (bytes edges left : ℕ) → CanTake reader bytes edges left → WasFed reader fed
+    → KeepsUp reader (left + bytes) fed
+keeps_up-plain reader fed bytes edges left may h = keeps_up-fed reader (left + bytes) fed may.says h
+
+-- the edges of bytes that may be taken in one go are few
+pub plain-few : (reader : TextReader) (fed bytes : List ℕ) (edges : List (ℕ × ℕ)) (left : ℕ) → EndsLine bytes → all_said bytes ≡ edge_lines edges
+    → CanTake reader (length bytes) (length edges) left → WasFed reader fed → reader.lines.numbers.lines + length edges < 2 ^ 64
+plain-few reader fed bytes edges left ended told may h =
+    let few = keeps_up-fewer reader left (length bytes) fed (keeps_up-plain reader fed (length bytes) (length edges) left may h) in
+    omega (arith, few, few-edges bytes edges ended told)
+
+-- bytes were taken in one go by the edges that they tell
+pub fed-plain : (old new : TextReader) (fed bytes : List ℕ) (edges : List (ℕ × ℕ)) (left : ℕ) → EndsLine bytes → all_said bytes ≡ edge_lines edges
+    → CanTake old (length bytes) (length edges) left
+    → ((before : List TextLine) → Reads old.limits old.lines before → Reads old.limits new.lines (before ++ edge_lines edges))
+    → CanRead new.lines → new.lines.numbers.lines ≡ old.lines.numbers.lines + length edges → new.left ≡ Some left → new.carry ≡ old.carry
+    → new.limits ≡ old.limits → WasFed old fed → WasFed new (fed ++ bytes)
+fed-plain old new fed bytes edges left ended told may reads can count says carry same h =
+    let f : KeepsUp old (left + length bytes) fed = keeps_up-plain old fed (length bytes) (length edges) left may h in
+    let lines : edge_lines edges ≡ all_said (old.carry.items ++ bytes) = sym (ap (λ (t : List ℕ). all_said (t ++ bytes)) may.none_begun ∙ told) in
+    subst (λ l. WasFedWithin new l (fed ++ bytes)) (sym says)
+    (whole-read old new left fed bytes ended may.some f
+    (λ before r. subst (λ (t : List TextLine). Reads old.limits new.lines (before ++ t)) lines (reads before r)) can
+    (ap (λ c. c.items) carry ∙ may.none_begun) (omega (arith, count, few-edges bytes edges ended told)) same)

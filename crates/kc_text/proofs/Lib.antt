@@ -1,4 +1,5 @@
 pub mod Again
+pub mod AtOnce
 pub mod Batched
 pub mod Counts
 pub mod Fed
@@ -17,6 +18,7 @@ pub mod SaidAppend
 pub mod Settled
 pub mod Strict
 pub mod Pairs
+pub mod PartLines
 pub mod Places
 pub mod PlainLines
 pub mod Printed

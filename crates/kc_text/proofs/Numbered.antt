@@ -1,15 +1,16 @@
 -- The numbers of the lines that tell something, one line after another.
 use Rattle.std.proofs.Common.{◌≡◌, ◌≤◌, ◌<◌, ◌+◌, ℕ, suc, zero, true, false, cond, List, [], ◌∷◌, ◌++◌, length, get_or, fold, refl, sym, ap, ◌∙◌}
-use Rattle.std.proofs.Common.{ap₂, append-nil, arith, nat_le, length-append, inl, inr, subst}
+use Rattle.std.proofs.Common.{append_assoc, ap₂, append-nil, arith, nat_le, length-append, inl, inr, subst}
 use Rattle.std.specs.Prelude.{All}
 use Rattle.std.proofs.lemmas.Bool.{cases_lt}
 use Rattle.std.proofs.lemmas.List.{get_or_append_left}
 use Rattle.std.proofs.lemmas.List.Elements.{All-head, All-push, All-tail}
 use Rattle.std.proofs.Math.Seq.{get_or-append_seam}
 use Rattle.kc_text.specs.declared.line.TextLine.{TextLine}
+use Rattle.kc_text.specs.declared.line.TextLine.TheVariants as said
 use Rattle.kc_text.specs.declared.line_numbers.LineNumbers.{LineNumbers}
 use Rattle.kc_text.specs.Numbering.{HasNumbers, IsNoted}
-use Rattle.kc_text.specs.TellingLines.{is_telling, numbers, skipped_at}
+use Rattle.kc_text.specs.TellingLines.{edge_lines, is_telling, numbers, skipped_at}
 
 -- the numbers of lines with one more behind them
 pub numbers-push : (done : ℕ) (lines : List TextLine) (line : TextLine)
@@ -155,3 +156,43 @@ telling-counted old noted new lines line is has n l t s steps =
       next = ap (skipped_at new.steps.items) count ∙ skipped-on new.steps.items old.telling below ∙ here;
       below = λ k d lk. let h = below k d lk in omega (arith, count);
     }
+
+-- with what is skipped noted, the numbers of the lines are as before
+noted-numbers : (old noted : LineNumbers) (lines : List TextLine) → HasNumbers old lines → IsNoted old noted → HasNumbers noted lines
+noted-numbers old noted lines has n = record {
+  lines = n.lines ∙ has.lines;
+  telling = n.telling ∙ has.telling;
+  each = λ place less.
+      let earlier : place < old.telling = omega (arith, n.telling) in
+      has.each place earlier ∙ ap (λ (k : ℕ). place + 1 + k) (sym (n.before place earlier));
+  next = ap (skipped_at noted.steps.items) n.telling ∙ n.here has.next;
+  below = subst (λ (k : ℕ). All (λ (step : ℕ × ℕ). step.0 ≤ k) noted.steps.items) (sym n.telling) (n.below has.below);
+}
+
+-- With edge lines more there are as many numbers more, where nothing is skipped that is not noted.
+edges-counted_on : (old new : LineNumbers) (lines : List TextLine) (edges : List (ℕ × ℕ)) → HasNumbers old lines → old.skipped + old.telling ≡ old.lines
+    → new.lines ≡ old.lines + length edges → new.telling ≡ old.telling + length edges → new.skipped ≡ old.skipped → new.steps.items ≡ old.steps.items
+    → HasNumbers new (lines ++ edge_lines edges)
+edges-counted_on old new lines [] has noted l t s steps =
+    let same : new.telling ≡ old.telling = omega (arith, t) in
+    subst (HasNumbers new) (sym (append-nil lines)) (record {
+      lines = omega (arith, l, has.lines);
+      telling = same ∙ has.telling;
+      each = λ place less. has.each place (omega (arith, same)) ∙ ap (λ (items : List (ℕ × ℕ)). place + 1 + skipped_at items place) (sym steps);
+      next = ap₂ skipped_at steps same ∙ has.next ∙ sym s;
+      below = subst (λ (items : List (ℕ × ℕ)). All (λ (step : ℕ × ℕ). step.0 ≤ new.telling) items) (sym steps)
+          (subst (λ (k : ℕ). All (λ (step : ℕ × ℕ). step.0 ≤ k) old.steps.items) (sym same) has.below);
+    })
+edges-counted_on old new lines ((a, b) ∷ edges) has noted l t s steps =
+    let next : LineNumbers = record { lines = old.lines + 1; telling = old.telling + 1; skipped = old.skipped; steps = old.steps } in
+    let more : HasNumbers next (lines ++ said.Edge a b ∷ []) = telling-counted old old next lines (said.Edge a b) refl has
+    (record { lines = refl; telling = refl; skipped = noted; here = λ h. h; before = λ _ _. refl; below = λ h. h }) refl refl refl refl in
+    subst (HasNumbers new) (append_assoc lines (said.Edge a b ∷ []) (edge_lines edges))
+    (edges-counted_on next new (lines ++ said.Edge a b ∷ []) edges more (omega (arith, noted)) (omega (arith, l)) (omega (arith, t)) s steps)
+
+-- with edge lines more there are as many numbers more
+pub edges-counted : (old noted new : LineNumbers) (lines : List TextLine) (edges : List (ℕ × ℕ)) → HasNumbers old lines → IsNoted old noted
+    → new.lines ≡ noted.lines + length edges → new.telling ≡ noted.telling + length edges → new.skipped ≡ noted.skipped
+    → new.steps.items ≡ noted.steps.items → HasNumbers new (lines ++ edge_lines edges)
+edges-counted old noted new lines edges has n l t s steps =
+    edges-counted_on noted new lines edges (noted-numbers old noted lines has n) (omega (arith, n.skipped, n.telling, n.lines)) l t s steps

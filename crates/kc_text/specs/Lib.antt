@@ -9,6 +9,7 @@ pub mod Lines
 pub mod Meaning
 pub mod NamedOnce
 pub mod Overruling
+pub mod Parts
 -- What the crate's own functions and invariants speak of.
 pub mod Buckets
 pub mod Deciding

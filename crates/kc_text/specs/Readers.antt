@@ -1,5 +1,5 @@
 -- What a reader has been told so far.
-use Rattle.std.specs.Prelude.{◌≡◌, ◌≤◌, ◌⊎◌, ◌||◌, ℕ, Bool, true, false, List, [], ◌∷◌, ◌++◌, map, length, Option, Some, None, is_some, nat_lt, IfSome, nat_eq}
+use Rattle.std.specs.Prelude.{◌≡◌, ◌≤◌, ◌+◌, ◌⊎◌, ◌||◌, ℕ, Bool, true, false, List, [], ◌∷◌, ◌++◌, map, length, Option, Some, None, is_some, nat_lt, IfSome, nat_eq}
 use Rattle.std.specs.List.{filter}
 use Rattle.std.specs.Option.{option_map}
 use Rattle.std.specs.Set.{distinct_count, is_member}
@@ -52,6 +52,12 @@ NamesFew limits told = distinct_count nat_eq (names told) ≤ limits.ids
 -- it counts the ids line by line, or there are not too many
 abbrev pub IsExact : Limits → Reader → Type 0
 IsExact limits reader = (is_some reader.ids ≡ true) ⊎ NamesFew limits (told_by reader)
+
+-- so many edge lines may come in one go: there is no batch, no ids are counted line by line, and the lines are within the limit
+pub record HasRoom (limits : Limits) (reader : Reader) (more : ℕ) : Type 0 where
+  pub before_batches : reader.last ≡ None
+  pub quick : reader.ids ≡ None
+  pub few : length reader.edges.items + more ≤ limits.edge_lines
 
 -- the set, if there is one, has two more ids
 abbrev pub Gains : {S : Type 0} → Option (HashSet ℕ S) → Option (HashSet ℕ S) → ℕ → ℕ → Type 0

@@ -40,6 +40,13 @@ pub(crate) fn whole_len(bytes: &[u8]) -> usize
     0
 }
 
+/// How many bytes the first line has with its end, or all.
+pub(crate) fn first_len(bytes: &[u8]) -> usize
+    ensures { result ≤ length bytes.now }
+{
+    bytes.len().min(line_len(bytes).saturating_add(1))
+}
+
 fn without_first(bytes: &[u8]) -> &[u8]
     ensures { result.now ≡ drop 1 bytes.now }
 {

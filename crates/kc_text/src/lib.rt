@@ -8,6 +8,9 @@
 //! [`TextReader`] gives the same of a text that comes in pieces, cut anywhere. It reads each line as soon as the line is whole, so
 //! nobody has to hold the text. Where the batches are of no concern, it gives the ids and the edges as they come, and sorts nothing.
 //!
+//! [`TextReader::feed_by`] does so with the help of a [`PartsReader`], which reads the lines of a piece in parts, as [`read_parts_in`] does by
+//! several threads. Line numbers, limits and refusals stay with the one reader.
+//!
 //! A batch may name a pair again. Then the last line that names it decides, as `specs/Overruling` says, and the others are counted.
 //! [`decide`] does the same for a list of updates, as `specs/LastUpdates` says.
 //!
@@ -16,7 +19,8 @@
 //! Reading is linear but for sorts. A plain line is read in one scan (`plain`), any other is cut off and into fields. Ids that are not
 //! far apart are marked and listed, and far ones sorted (`ids`). The different ids are counted at the end. Only where there are too
 //! many are the edges and batches that were told taken again, line by line, to find the line (`reading`). The text itself is read
-//! once. The crate stands on `kc_graph`, for a graph's edges as a set of pairs and for its updates.
+//! once, but for parts with other lines than plain edge lines, which are looked at before. The crate stands on `kc_graph`, for a graph's
+//! edges as a set of pairs and for its updates.
 #![tactic(auto)]
 
 mod batch;
@@ -38,6 +42,7 @@ mod look;
 mod named_edges;
 mod numbering;
 mod overruling;
+mod part;
 mod plain;
 mod reader;
 mod reading;
@@ -72,6 +77,7 @@ pub use limits::{Limits, MOST_BATCHES, MOST_BYTES, MOST_EDGE_LINES, MOST_IDS, MO
 pub use line::{TextLine, read_line};
 pub use named_edges::NamedEdges;
 pub use overruling::decide;
+pub use part::{OneThread, Part, PartsReader, cut_lines, read_part, read_parts_in};
 pub use refusal::Refusal;
 pub use std::alloc::AllocError as NoMemory;
 use std::alloc::Global;
@@ -148,6 +154,28 @@ pub fn parse(alloc: Global, limits: Limits, bytes: &[u8]) -> Result<Input, Parse
     let mut reader = TextReader::new(alloc, limits);
     reader.feed(alloc, bytes)?;
     reader.finish(alloc)
+}
+
+/// As [`parse`]. Where `threads` is 2 or more, `reader` reads the lines in parts first, as for so many threads. Whoever reads them, the
+/// input is the same, and so is what is refused.
+pub fn parse_by<P: PartsReader>(
+    alloc: Global,
+    limits: Limits,
+    reader: &P,
+    threads: u32,
+    bytes: &[u8],
+) -> Result<Input, ParseFault>
+    ensures input { IfOk result (λ input. (told : Told) × (meaning limits bytes.now ≡ Means told) × IsInput told input) }
+    ensures few { IfOk result (λ input. length input.ids.items ≤ limits.ids) }
+    ensures few_batches { IfOk result (λ input. length input.batches.items ≤ limits.batches) }
+    ensures short { IfOk result (λ input. All (λ batch. length batch.updates.items ≤ limits.updates) input.batches.items) }
+    ensures counts { IfOk result (λ input. All (λ batch. batch.overruled ≤ limits.updates) input.batches.items) }
+    ensures batches { IfOk result (λ input. All (λ batch. IsBatch (length input.ids.items) batch.updates.items) input.batches.items) }
+    ensures refused { (r : Refusal) → IsErrOf result (ParseFault.Refused r) → meaning limits bytes.now ≡ Refuses r.line r.kind }
+{
+    let mut text = TextReader::new(alloc, limits);
+    text.feed_pieces(alloc, reader, threads, bytes)?;
+    text.finish(alloc)
 }
 
 /// The changes of a batch that decide name each pair that the batch names, and none twice, and all its other changes are overruled.

@@ -1,8 +1,8 @@
 //! The numbers of the lines that tell something, where most of them follow one another.
-ghost use Rattle.std.specs.Prelude.{◌≡◌, ◌≤◌, ◌<◌, ◌+◌, ◌++◌, ◌∷◌, ◌^◌, [], true, List, OnOk};
+ghost use Rattle.std.specs.Prelude.{◌≡◌, ◌≤◌, ◌<◌, ◌+◌, ◌++◌, ◌∷◌, ◌^◌, [], ℕ, true, List, OnOk, length};
 ghost use Rattle.kc_text.specs.declared.line.TextLine.{TextLine};
 ghost use Rattle.kc_text.specs.Numbering.{HasNumbers, IsNoted};
-ghost use Rattle.kc_text.specs.TellingLines.{is_telling, skipped_at};
+ghost use Rattle.kc_text.specs.TellingLines.{edge_lines, is_telling, skipped_at};
 
 use crate::NoMemory;
 use crate::line::TextLine;
@@ -83,6 +83,21 @@ impl LineNumbers {
             return self.count_telling();
         }
         self.lines += 1;
+        Ok(())
+    }
+
+    /// Counts so many edge lines more.
+    pub(crate) fn count_edges(&mut self, count: u64) -> Result<(), NoMemory>
+        requires lines { self.old.lines + count < 2 ^ 64 }
+        requires order { self.old.telling ≤ self.old.lines }
+        ensures numbers { OnOk result ((before : List TextLine) (edges : List (ℕ × ℕ)) → length edges ≡ count → HasNumbers self.old before
+            → HasNumbers self.new (before ++ edge_lines edges)) }
+        ensures lines { OnOk result (self.new.lines ≡ self.old.lines + count) }
+        ensures order { OnOk result (self.new.telling ≤ self.new.lines) }
+    {
+        self.note_skipped()?;
+        self.lines += count;
+        self.telling += count;
         Ok(())
     }
 

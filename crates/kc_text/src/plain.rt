@@ -33,7 +33,7 @@ fn front_number(bytes: &[u8]) -> Option<(u32, &[u8])>
 }
 
 /// The two numbers of the first line, and what follows the line.
-fn front_pair(bytes: &[u8]) -> Option<(u32, u32, &[u8])>
+pub(crate) fn front_pair(bytes: &[u8]) -> Option<(u32, u32, &[u8])>
     ensures { IfSome result (λ r. BeginsWithPair bytes.now r.0 r.1 r.2.now) }
 {
     let (a, rest) = front_number(bytes)?;

@@ -1,12 +1,12 @@
 //! Takes one line after another and keeps what they tell, or gives the first check that a line fails.
-ghost use Rattle.std.specs.Prelude.{◌≡◌, ◌≤◌, ◌<◌, ◌+◌, ◌^◌, ◌++◌, [], None, Some, length, map, IfOk, OnOk, IfSome, IsSome, is_some, true, nat_eq};
+ghost use Rattle.std.specs.Prelude.{◌≡◌, ◌≤◌, ◌<◌, ◌+◌, ◌^◌, ◌++◌, [], None, Some, length, map, IfOk, OnOk, IfSome, IsSome, IsTrue, is_some, true, nat_eq};
 ghost use Rattle.std.specs.Prelude.{unwrap_or, ◌∷◌};
 ghost use Rattle.std.specs.HashSet.{IsUnique};
 ghost use Rattle.std.specs.Option.{option_map, option_to_list};
 ghost use Rattle.kc_text.specs.declared.line.TextLine.TheVariants as said;
 ghost use Rattle.kc_text.specs.Looks.{is_exact};
 ghost use Rattle.kc_text.specs.Meaning.{batches, first_limit, nothing_told, passed_limit, refusal, unfit, with_line};
-ghost use Rattle.kc_text.specs.Readers.{told_by, Gains, HasIds, IsExact, IsTold, ReaderKeeps, is_over};
+ghost use Rattle.kc_text.specs.Readers.{told_by, Gains, HasIds, HasRoom, IsExact, IsTold, ReaderKeeps, is_over};
 
 use crate::NoMemory;
 use crate::change::ChangeLine;
@@ -169,6 +169,27 @@ impl Reader {
         self.edges.push((a, b))?;
         count_ids(&mut self.ids, a, b)?;
         Ok(self.passed_limit(limits))
+    }
+
+    /// Whether so many edge lines may come in one go: no batch line came, no ids are counted, and the lines are not too many.
+    pub(crate) fn has_room(&self, limits: &Limits, edge_lines: usize) -> bool
+        ensures { IsTrue result → HasRoom limits.now self.now edge_lines }
+    {
+        self.last.is_none()
+            && self.ids.is_none()
+            && edge_lines <= limits.edge_lines.saturating_sub(self.edges.len())
+            && self.edges.len() <= limits.edge_lines
+    }
+
+    /// Takes edge lines in one go.
+    pub(crate) fn take_edges(&mut self, edges: &[(u32, u32)]) -> Result<(), NoMemory>
+        ensures edges { OnOk result (self.new.edges.items ≡ self.old.edges.items ++ edges.now) }
+        ensures earlier { self.new.earlier ≡ self.old.earlier }
+        ensures last { self.new.last ≡ self.old.last }
+        ensures changes { self.new.changes ≡ self.old.changes }
+        ensures ids { self.new.ids ≡ self.old.ids }
+    {
+        self.edges.extend_from_slice(edges)
     }
 
     fn take_batch(&mut self, alloc: Global, limits: &Limits) -> Result<Option<Kind>, NoMemory>

@@ -2,7 +2,7 @@
 //!
 //! The different ids are counted when all is read. Only where there are too many, the lines that tell something are read again, and
 //! then the ids are counted at each, to find the first line that is refused.
-ghost use Rattle.std.specs.Prelude.{◌≡◌, ◌≤◌, ◌<◌, ◌+◌, ◌-◌, ◌++◌, ◌∷◌, ◌^◌, [], None, Some, List, IfOk, IfSome, OnOk, is_some, length, map, nat_eq};
+ghost use Rattle.std.specs.Prelude.{◌≡◌, ◌≤◌, ◌<◌, ◌+◌, ◌-◌, ◌++◌, ◌∷◌, ◌^◌, [], None, Some, List, IfOk, IfSome, IsTrue, OnOk, is_some, length, map, nat_eq};
 ghost use Rattle.std.specs.List.{flat_map};
 ghost use Rattle.kc_text.specs.declared.limits.Limits.{Limits};
 ghost use Rattle.kc_text.specs.declared.line.TextLine.{TextLine};
@@ -10,7 +10,7 @@ ghost use Rattle.kc_text.specs.declared.line.TextLine.TheVariants.{Change};
 ghost use Rattle.kc_text.specs.Forms.{all_said};
 ghost use Rattle.kc_text.specs.Looks.{is_exact};
 ghost use Rattle.kc_text.specs.Meaning.{Told, nothing_told, reading};
-ghost use Rattle.kc_text.specs.Readers.{outcome};
+ghost use Rattle.kc_text.specs.Readers.{HasRoom, outcome};
 ghost use Rattle.kc_text.specs.Readings.{CanRead, IsFound, IsReading, Reads, refusal_at};
 ghost use Rattle.std.specs.Set.{distinct_count};
 ghost use Rattle.kc_text.specs.TellingLines.{lines_of_batch, edge_lines, lines_of, named_by, skipped_at};
@@ -207,6 +207,40 @@ impl LineReader {
         for (a, b) in edges {
             self.take_next(alloc, limits, TextLine::Edge(*a, *b))?;
         }
+        Ok(())
+    }
+
+    /// Whether no line is refused so far.
+    pub(crate) fn goes_on(&self) -> bool
+        ensures { IsTrue result → self.now.refusal ≡ None }
+    {
+        self.refusal.is_none()
+    }
+
+    /// Whether so many edge lines may come in one go, where none is refused.
+    pub(crate) fn has_room(&self, limits: &Limits, edge_lines: usize) -> bool
+        ensures { IsTrue result → (self.now.refusal ≡ None) × HasRoom limits.now self.now.reader edge_lines }
+    {
+        self.refusal.is_none() && self.reader.has_room(limits, edge_lines)
+    }
+
+    /// Takes the lines that tell edges in one go. None of them is refused.
+    pub(crate) fn take_plain(
+        &mut self,
+        limits: &Limits,
+        edges: &[(u32, u32)],
+    ) -> Result<(), NoMemory>
+        requires can { CanRead self.old }
+        requires going { self.old.refusal ≡ None }
+        requires room { HasRoom limits.now self.old.reader (length edges.now) }
+        requires few { self.old.numbers.lines + length edges.now < 2 ^ 64 }
+        ensures reads { OnOk result ((before : List TextLine) → Reads limits.now self.old before
+            → Reads limits.now self.new (before ++ edge_lines edges.now)) }
+        ensures can { OnOk result (CanRead self.new) }
+        ensures lines { OnOk result (self.new.numbers.lines ≡ self.old.numbers.lines + length edges.now) }
+    {
+        self.reader.take_edges(edges)?;
+        self.numbers.count_edges(edges.len() as u64)?;
         Ok(())
     }
 

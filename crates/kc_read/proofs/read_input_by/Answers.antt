@@ -5,7 +5,7 @@ use Rattle.std.proofs.lemmas.Result.{err_from_is_err_and}
 use Rattle.kc_text.specs.Meaning.{Means, Refuses, meaning}
 use Rattle.kc_text.specs.declared.limits.Limits.{Limits}
 use Rattle.kc_read.proofs.Whole.{IsInputWithin-given, fault_of-refused, fault_of-unread, refused-given}
-use Rattle.kc_read.proofs.read_input.Goals as goal
+use Rattle.kc_read.proofs.read_input_by.Goals as goal
 
 pub returns-in_err-reader : goal.returns-in_err-reader
 returns-in_err-reader g c =
