@@ -1,9 +1,11 @@
 pub mod Binning
 pub mod Cutting
+pub mod Halving
 pub mod Holding
 pub mod Listed
 pub mod Packed
 pub mod Pairing
+pub mod Ranging
 pub mod Sorted
 pub mod Swapping
 pub mod Taking

@@ -4,4 +4,5 @@ pub mod Pairs
 -- What the crate's own functions and invariants speak of.
 pub mod Bins
 pub mod Parts
+pub mod Ranges
 pub mod Holders

@@ -1,8 +1,12 @@
 -- A block that is cut into parts.
-use Rattle.std.specs.Prelude.{◌≡◌, ◌≤◌, ◌<◌, ◌^◌, ℕ, List, [], ◌∷◌, length, slice_index}
+use Rattle.std.specs.Prelude.{◌≡◌, ◌≤◌, ◌<◌, ◌^◌, ℕ, true, List, [], ◌∷◌, length, slice_index, All}
 use Rattle.std.specs.List.{between}
+use Rattle.std.specs.List.Sorted.{IsNonDecreasing}
+use Rattle.kc_lists.specs.Lists.{member}
 use Rattle.kc_graph.specs.Blocks.{first_of}
+use Rattle.kc_graph.specs.Bulk.{is_within, are_joined}
 use Rattle.kc_graph.specs.Rows.{IsAdjacency}
+use Rattle.kc_graph.specs.declared.bulk.Edge.{Edge}
 
 -- the numbers of one part: `ends` has for each part where it ends, which is where the next one begins
 abbrev pub part : List ℕ → List ℕ → ℕ → List ℕ
@@ -17,6 +21,13 @@ parts_from from (end ∷ ends) block = between from end block ∷ parts_from end
 pub record Fills (ends block : List ℕ) : Type 0 where
   pub ordered : (v : ℕ) → v < length ends → first_of ends v ≤ slice_index ends v
   pub whole : first_of ends (length ends) ≡ length block
+
+-- The parts have the other ends of the edges at each vertex, sorted and with repeats. Loops have none.
+pub record AreEndsOf (edges : List Edge) (ends block : List ℕ) : Type 0 where
+  pub within : All (λ e. is_within (length ends) e ≡ true) edges
+  pub fills : Fills ends block
+  pub sorted : (v : ℕ) → v < length ends → IsNonDecreasing (part ends block v)
+  pub joined : (v w : ℕ) → v < length ends → member w (part ends block v) ≡ are_joined edges v w
 
 -- The parts are the rows of a graph.
 pub record IsFlat (ends block : List ℕ) : Type 0 where

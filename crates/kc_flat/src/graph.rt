@@ -1,14 +1,13 @@
 //! A graph in one array.
-ghost use Rattle.std.specs.Prelude.{◌≡◌, ◌<◌, ◌^◌, ◌++◌, ℕ, length, map, All, IfOk, List, OnOk};
-ghost use Rattle.std.specs.List.Sorted.{IsStrictlyIncreasing, IsNonDecreasing};
+ghost use Rattle.std.specs.Prelude.{◌≡◌, ◌<◌, ◌^◌, ◌++◌, length, map, All, IfOk, List, OnOk};
 ghost use Rattle.std.specs.FinSet as set;
-ghost use Rattle.kc_lists.specs.Lists.{member};
-ghost use Rattle.kc_graph.specs.Bulk.{are_joined, graph_with};
+ghost use Rattle.kc_graph.specs.Bulk.{graph_with};
 ghost use Rattle.kc_graph.specs.Gathering.{edge_of};
 ghost use Rattle.kc_graph.specs.Neighbours.{AreNeighbours, edges_to_greater};
 ghost use Rattle.kc_flat.specs.Listing.{edge_list};
 ghost use Rattle.kc_flat.specs.Pairs.{AreWithin};
-ghost use Rattle.kc_flat.specs.Parts.{part, Fills};
+ghost use Rattle.kc_graph.specs.declared.bulk.Edge.{Edge};
+ghost use Rattle.kc_flat.specs.Parts.{AreEndsOf};
 
 use crate::NoMemory;
 use crate::gathering::gather;
@@ -57,13 +56,27 @@ impl Model for FlatGraph {
 fn sorted_ends(alloc: Global, vertices: u32, pairs: &[(u32, u32)]) -> Result<Gathered, NoMemory>
     requires { AreWithin vertices pairs.now }
     ensures count { IfOk result (λ g. length g.ends.items ≡ vertices) }
-    ensures fills { IfOk result (λ g. Fills g.ends.items g.block.items) }
-    ensures sorted { IfOk result (λ g. (v : ℕ) → v < vertices → IsNonDecreasing (part g.ends.items g.block.items v)) }
-    ensures joined { IfOk result (λ g. (v w : ℕ) → v < vertices → member w (part g.ends.items g.block.items v) ≡ are_joined (map edge_of pairs.now) v w) }
+    ensures ends { IfOk result (λ g. AreEndsOf (map edge_of pairs.now) g.ends.items g.block.items) }
 {
     let mut gathered = gather(alloc, vertices, pairs)?;
     sort_parts(&mut gathered.block, &gathered.ends);
     Ok(gathered)
+}
+
+/// The graph with these ends at its vertices. Of an end that is there again, one is kept.
+pub(crate) fn packed(gathered: Gathered) -> FlatGraph
+    requires few { length gathered.ends.items < 2 ^ 32 }
+    requires ends { (edges : List Edge) × AreEndsOf edges gathered.ends.items gathered.block.items }
+    ensures { (edges : List Edge) → AreEndsOf edges gathered.ends.items gathered.block.items → result ≡ graph_with (length gathered.ends.items) edges }
+{
+    let Gathered {
+        mut block,
+        mut ends,
+    } = gathered;
+    let kept = drop_repeats(&mut block, &mut ends);
+    block.truncate(kept);
+    block.shrink_to_fit();
+    FlatGraph { block, ends }
 }
 
 /// Puts the edges from a vertex to those of its neighbours that are greater behind others.
@@ -91,14 +104,7 @@ impl FlatGraph {
         requires { AreWithin vertices pairs.now }
         ensures { IfOk result (λ g. g ≡ graph_with vertices (map edge_of pairs.now)) }
     {
-        let Gathered {
-            mut block,
-            mut ends,
-        } = sorted_ends(alloc, vertices, pairs)?;
-        let kept = drop_repeats(&mut block, &mut ends);
-        block.truncate(kept);
-        block.shrink_to_fit();
-        Ok(FlatGraph { block, ends })
+        Ok(packed(sorted_ends(alloc, vertices, pairs)?))
     }
 
     /// How many vertices there are: they are the numbers below this.

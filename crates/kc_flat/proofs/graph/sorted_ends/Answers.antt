@@ -8,7 +8,7 @@ use Rattle.kc_graph.specs.Gathering.{edge_of, ends_at, first_place, Filled}
 use Rattle.kc_graph.specs.declared.bulk.Edge.{Edge}
 use Rattle.kc_graph.proofs.Scattering.{list-written}
 use Rattle.kc_flat.specs.Pairs.{AreWithin}
-use Rattle.kc_flat.specs.Parts.{part, Fills}
+use Rattle.kc_flat.specs.Parts.{part, AreEndsOf, Fills}
 use Rattle.kc_flat.proofs.Cutting.{fills-resized}
 use Rattle.kc_flat.proofs.Pairing.{edges-within, gathered-fills, gathered-joined}
 use Rattle.kc_flat.proofs.graph.sorted_ends.Goals as goal
@@ -43,38 +43,27 @@ sort_parts-requires c =
     c.deref_mut.result.now c.requires c.in_ok-gathered.ensures.count c.in_ok-gathered.ensures.whole c.in_ok-gathered.ensures.filled
     c.deref.ensures.value c.deref_mut.ensures.value).fills
 
-pub returns-clause-fills : goal.returns-clause-fills
-returns-clause-fills c =
+pub returns-clause-ends : goal.returns-clause-ends
+returns-clause-ends c =
     let ends : List ℕ = c.in_ok-gathered.gathered.ends.items in
     let block : List ℕ = c.in_ok-gathered.gathered.block.items in
-    let g = gathers c.args.pairs.now c.args.vertices ends block ends block c.requires c.in_ok-gathered.ensures.count c.in_ok-gathered.ensures.whole
+    let n : length ends ≡ c.args.vertices = c.in_ok-gathered.ensures.count in
+    let g = gathers c.args.pairs.now c.args.vertices ends block ends block c.requires n c.in_ok-gathered.ensures.whole
     c.in_ok-gathered.ensures.filled refl refl in
-    let long : length c.sort_parts.new.block ≡ length block = omega (arith, c.sort_parts.ensures.len, ap length c.deref_mut.ensures.value) in
-    subst (Fills ends) (sym (list-written c.sort_parts.new.block block c.in_ok-gathered.gathered.block.len
-    (omega (arith, c.in_ok-gathered.gathered.block.ok.0, long))))
-    (fills-resized ends block g.fills c.sort_parts.new.block long)
-
-pub returns-clause-sorted : goal.returns-clause-sorted
-returns-clause-sorted c v l =
-    let ends : List ℕ = c.in_ok-gathered.gathered.ends.items in
-    let block : List ℕ = c.in_ok-gathered.gathered.block.items in
-    let long : length c.sort_parts.new.block ≡ length block = omega (arith, c.sort_parts.ensures.len, ap length c.deref_mut.ensures.value) in
+    let ends-is : c.deref.result.now ≡ ends = c.deref.ensures.value in
+    let block-is : c.deref_mut.result.now ≡ block = c.deref_mut.ensures.value in
+    let long : length c.sort_parts.new.block ≡ length block = omega (arith, c.sort_parts.ensures.len, ap length block-is) in
     let written : take c.in_ok-gathered.gathered.block.len (c.sort_parts.new.block ++ drop (length c.sort_parts.new.block) block) ≡ c.sort_parts.new.block =
     list-written c.sort_parts.new.block block c.in_ok-gathered.gathered.block.len (omega (arith, c.in_ok-gathered.gathered.block.ok.0, long)) in
-    subst (λ (t : List ℕ). IsNonDecreasing (part ends t v)) (sym written)
-    (subst (λ (t : List ℕ). IsNonDecreasing (part t c.sort_parts.new.block v)) c.deref.ensures.value
-    (c.sort_parts.ensures.sorted v (omega (arith, l, ap length c.deref.ensures.value, c.in_ok-gathered.ensures.count))))
-
-pub returns-clause-joined : goal.returns-clause-joined
-returns-clause-joined c v w l =
-    let ends : List ℕ = c.in_ok-gathered.gathered.ends.items in
-    let block : List ℕ = c.in_ok-gathered.gathered.block.items in
-    let long : length c.sort_parts.new.block ≡ length block = omega (arith, c.sort_parts.ensures.len, ap length c.deref_mut.ensures.value) in
-    let g = gathers c.args.pairs.now c.args.vertices ends block ends block c.requires c.in_ok-gathered.ensures.count c.in_ok-gathered.ensures.whole
-    c.in_ok-gathered.ensures.filled refl refl in
-    ap (λ (t : List ℕ). member w (part ends t v))
-    (list-written c.sort_parts.new.block block c.in_ok-gathered.gathered.block.len (omega (arith, c.in_ok-gathered.gathered.block.ok.0, long)))
-    ∙ ap (λ (t : List ℕ). member w (part t c.sort_parts.new.block v)) (sym c.deref.ensures.value)
-    ∙ c.sort_parts.ensures.same v w (omega (arith, l, ap length c.deref.ensures.value, c.in_ok-gathered.ensures.count))
-    ∙ ap₂ (λ (s t : List ℕ). member w (part s t v)) c.deref.ensures.value c.deref_mut.ensures.value
-    ∙ g.joined v w (omega (arith, l, c.in_ok-gathered.ensures.count))
+    subst (AreEndsOf (map edge_of c.args.pairs.now) ends) (sym written) (record {
+      within =
+          subst (λ (k : ℕ). All (λ e. is_within k e ≡ true) (map edge_of c.args.pairs.now)) (sym n)
+          (edges-within c.args.vertices c.args.pairs.now c.requires);
+      fills = fills-resized ends block g.fills c.sort_parts.new.block long;
+      sorted = λ v l.
+          subst (λ (t : List ℕ). IsNonDecreasing (part t c.sort_parts.new.block v)) ends-is
+          (c.sort_parts.ensures.sorted v (omega (arith, l, ap length ends-is)));
+      joined = λ v w l.
+          ap (λ (t : List ℕ). member w (part t c.sort_parts.new.block v)) (sym ends-is) ∙ c.sort_parts.ensures.same v w (omega (arith, l, ap length ends-is))
+          ∙ ap₂ (λ (s t : List ℕ). member w (part s t v)) ends-is block-is ∙ g.joined v w l;
+    })
