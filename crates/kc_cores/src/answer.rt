@@ -24,14 +24,16 @@ use crate::{CoresStatus, CoresStreams};
 use kc_files::folder::Folder;
 use kc_io::sink::{Sink, write_all};
 use kc_keeper::BatchMaker;
+use kc_threads::Hands;
 use kc_wire::wire::Wire;
 use kc_wishes::{CheckRequest, Reply, Request, Wanted, WatchRequest, request_of};
 use std::alloc::Global;
 use std::convert::AsStr;
 
 /// Writes the lines of a task for the graph of the input, and gives the ending of the run.
-fn follow<I: FileInput, C, O: PipeSink, E, L>(
+fn follow<H: Hands, I: FileInput, C, O: PipeSink, E, L>(
     alloc: Global,
+    hands: &H,
     request: Request<'_>,
     streams: &mut CoresStreams<I, C, O, E, L>,
 ) -> Result<String, Ending>
@@ -43,7 +45,7 @@ fn follow<I: FileInput, C, O: PipeSink, E, L>(
     ensures err { streams.new.err ≡ streams.old.err }
     ensures wire { streams.new.wire ≡ streams.old.wire }
 {
-    let Prepared { lines, told } = prepare(alloc, request, &mut streams.input)?;
+    let Prepared { lines, told } = prepare(alloc, hands, request, &mut streams.input)?;
     if lines.write(&mut streams.out).is_err() {
         return Err(Ending::cut(streams.out.is_reader_gone()));
     }
@@ -82,8 +84,9 @@ fn show<I: FileInput, C, O: PipeSink, E, L>(
 }
 
 /// All of a run for a task but its line.
-fn list<I: FileInput, C, O: PipeSink, E, L>(
+fn list<H: Hands, I: FileInput, C, O: PipeSink, E, L>(
     alloc: Global,
+    hands: &H,
     request: Request<'_>,
     streams: &mut CoresStreams<I, C, O, E, L>,
 ) -> Ending
@@ -93,7 +96,7 @@ fn list<I: FileInput, C, O: PipeSink, E, L>(
     ensures err { streams.new.err ≡ streams.old.err }
     ensures wire { streams.new.wire ≡ streams.old.wire }
 {
-    match follow(alloc, request, streams) {
+    match follow(alloc, hands, request, streams) {
         Err(ending) => ending,
         Ok(summary) => Ending {
             status: CoresStatus::Done,
@@ -103,8 +106,9 @@ fn list<I: FileInput, C, O: PipeSink, E, L>(
 }
 
 /// All of a run that checks a certificate but its line.
-fn check<I: FileInput, C: FileInput, O: PipeSink, E, L>(
+fn check<H: Hands, I: FileInput, C: FileInput, O: PipeSink, E, L>(
     alloc: Global,
+    hands: &H,
     request: CheckRequest<'_>,
     streams: &mut CoresStreams<I, C, O, E, L>,
 ) -> Ending
@@ -113,7 +117,13 @@ fn check<I: FileInput, C: FileInput, O: PipeSink, E, L>(
     ensures err { streams.new.err ≡ streams.old.err }
     ensures wire { streams.new.wire ≡ streams.old.wire }
 {
-    match verdict_on(alloc, request, &mut streams.input, &mut streams.certificate) {
+    match verdict_on(
+        alloc,
+        hands,
+        request,
+        &mut streams.input,
+        &mut streams.certificate,
+    ) {
         Err(ending) => ending,
         Ok(Some(fault)) => refute(alloc, request.certificate, fault, &mut streams.out),
         Ok(None) => {
@@ -158,9 +168,20 @@ fn answer_stream<I: FileInput, C, O, E, L: Wire, M: BatchMaker, P: Folder>(
 }
 
 /// All of a run but its line.
-fn work<M: BatchMaker, W: AsStr, I: FileInput, C: FileInput, O: PipeSink, E, L: Wire, P: Folder>(
+fn work<
+    M: BatchMaker,
+    H: Hands,
+    W: AsStr,
+    I: FileInput,
+    C: FileInput,
+    O: PipeSink,
+    E,
+    L: Wire,
+    P: Folder,
+>(
     alloc: Global,
     maker: &M,
+    hands: &H,
     words: &[W],
     streams: &mut CoresStreams<I, C, O, E, L>,
     folder: &mut P,
@@ -172,9 +193,9 @@ fn work<M: BatchMaker, W: AsStr, I: FileInput, C: FileInput, O: PipeSink, E, L: 
 {
     match request_of(alloc, words) {
         Err(reply) => show(reply, streams),
-        Ok(Wanted::Lines(request)) => list(alloc, request, streams),
-        Ok(Wanted::Save(request)) => save(alloc, request, &mut streams.input, folder),
-        Ok(Wanted::Check(request)) => check(alloc, request, streams),
+        Ok(Wanted::Lines(request)) => list(alloc, hands, request, streams),
+        Ok(Wanted::Save(request)) => save(alloc, hands, request, &mut streams.input, folder),
+        Ok(Wanted::Check(request)) => check(alloc, hands, request, streams),
         Ok(Wanted::CheckStream(request)) => check_stream(alloc, &request, streams),
         Ok(Wanted::Watch(request)) => answer_stream(alloc, maker, request, streams, folder),
     }
@@ -185,8 +206,8 @@ fn work<M: BatchMaker, W: AsStr, I: FileInput, C: FileInput, O: PipeSink, E, L: 
 /// name for that graph, writes `yes`, or `no` and the id that is at fault, and then what is wrong with it. Or it answers the stream of
 /// the wire, and writes what is wrong with it, if a line is refused. Or the lines become a file of `folder`, and nothing goes to `out`.
 ///
-/// Batches of the wire are made by `maker`, by as many workers as the words ask for, or fewer. No clause tells who made them: the answers are the
-/// same.
+/// Batches of the wire are made by `maker`, by as many workers as the words ask for, or fewer. A graph that is read whole is read and made by
+/// `hands`, by as many threads as the words ask for, or fewer. No clause tells who made them: the answers are the same.
 ///
 /// `words` are those after the program's name. Its clause has the line and two records. The one is `SaveEnded` where the lines become a file,
 /// and all but the input and the folder is as it was. At `Done` the file has just the lines for the graph that the bytes mean, and other files
@@ -247,15 +268,17 @@ fn work<M: BatchMaker, W: AsStr, I: FileInput, C: FileInput, O: PipeSink, E, L: 
 /// use kc_cores::answer::answer;
 /// use kc_cores::{CoresStreams, exit_number};
 /// use kc_keeper::KeeperAlone;
+/// use kc_threads::CallerAlone;
 ///
 /// // Streams in memory, as at `answer_in_memory`. The second line of the input has one id.
 /// let mut streams = CoresStreams { input, certificate, out, err, wire };
-/// let status = answer(alloc, &KeeperAlone, &["numbers"], &mut streams, &mut folder); // Refused
+/// let status = answer(alloc, &KeeperAlone, &CallerAlone, &["numbers"], &mut streams, &mut folder); // Refused
 /// let code = exit_number(status); // 3
 /// let lines = streams.out.taken(); // none
 /// ```
 pub fn answer<
     M: BatchMaker,
+    H: Hands,
     W: AsStr,
     I: FileInput,
     C: FileInput,
@@ -266,6 +289,7 @@ pub fn answer<
 >(
     alloc: Global,
     maker: &M,
+    hands: &H,
     words: &[W],
     streams: &mut CoresStreams<I, C, O, E, L>,
     folder: &mut P,
@@ -274,6 +298,6 @@ pub fn answer<
         result line streams.old.input streams.new.input streams.old.certificate streams.new.certificate streams.old.out streams.new.out
         streams.old.wire streams.new.wire folder.old folder.new × ToldLine E.Sink line streams.old.err streams.new.err }
 {
-    let ending = work(alloc, maker, words, streams, folder);
+    let ending = work(alloc, maker, hands, words, streams, folder);
     finish(&mut streams.err, ending)
 }

@@ -22,6 +22,7 @@ use kc_claims::{
 use kc_graph::NoMemory;
 use kc_io::sink::{Sink, write_all};
 use kc_io::source::Source;
+use kc_threads::Hands;
 use kc_wishes::{CheckRequest, NamedText};
 use std::alloc::Global;
 
@@ -101,8 +102,9 @@ fn swept<I: FileInput>(
 }
 
 /// Reads the graph, and gives the first fault of claims beside it if they have one.
-fn judged<I: FileInput>(
+fn judged<H: Hands, I: FileInput>(
     alloc: Global,
+    hands: &H,
     claims: &[Claim],
     text: NamedText<'_>,
     input: &mut I,
@@ -115,7 +117,7 @@ fn judged<I: FileInput>(
     ensures stopped { IfErr result (λ ending. HasNoFileGraph ending (text_of text.entry)
         (known_bytes I.left I.behind (text_of text.entry).file input.old) (I.faults input.old) (I.faults input.new)) }
 {
-    let named = read_graph(alloc, text, input)?;
+    let named = read_graph(alloc, hands, text, input)?;
     match check_claims(alloc, &named.ids, &named.graph, claims) {
         Ok(()) => Ok(None),
         Err(CheckFault::Faulty(fault)) => Ok(Some(fault)),
@@ -125,8 +127,9 @@ fn judged<I: FileInput>(
 
 /// Reads the certificate and then the graph, and gives the first fault of the certificate if it has one. A file is swept first, and no graph
 /// is made of it where that tells what the claims are.
-pub(crate) fn verdict_on<I: FileInput, C: FileInput>(
+pub(crate) fn verdict_on<H: Hands, I: FileInput, C: FileInput>(
     alloc: Global,
+    hands: &H,
     request: CheckRequest<'_>,
     input: &mut I,
     certificate: &mut C,
@@ -145,7 +148,7 @@ pub(crate) fn verdict_on<I: FileInput, C: FileInput>(
     let table = read_table(alloc, request.certificate, certificate)?;
     match swept(alloc, table, request.graph, input) {
         Ok(SweptClaims::Told(found)) => Ok(found),
-        Ok(SweptClaims::Untold(claims)) => judged(alloc, &claims, request.graph, input),
+        Ok(SweptClaims::Untold(claims)) => judged(alloc, hands, &claims, request.graph, input),
         Err(_) => Err(Ending::no_memory()),
     }
 }

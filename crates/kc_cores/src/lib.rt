@@ -14,6 +14,8 @@
 //! `--stream` it makes no graph, and insists on edges that ascend; with `--pieces` these lie in files that are read one after another
 //! (`specs/StreamChecked.antt`).
 //!
+//! A graph that is read whole is read and made by the hands that the caller gives (`kc_threads`), by as many threads as words ask for.
+//!
 //! The command `watch` answers a stream on a wire (`specs/WatchEnded.antt`): edges, and then batches of changes, each as soon as it has ended. With
 //! `--from` the text of a file stands in front of what the wire brings. Its batches are made by whom the caller hands in (`kc_keeper`); no code of the
 //! crate starts a thread or waits for one.
@@ -26,11 +28,11 @@
 //! of a text is looked at first (`kc_head`): where the text is refused, it tells what the text is, and shows the line; where it is read and
 //! may be no lines of a graph, that is told (`remarks`).
 //!
-//! The crate stands on `kc_io` for sources and sinks, on `kc_text` for what a text means, on `kc_dialect` and `kc_dialect_read` for
-//! dialects, on `kc_names` for names, on `kc_head` for the head of a text, on `kc_flat` and `kc_graph` for core numbers, on `kc_tally` for layers, on
-//! `kc_claims` for certificates, on `kc_keeper` for who makes the batches of a stream, on `kc_wire`, `kc_dialogue`, `kc_stream` and `kc_watch`
-//! for streams, on `kc_lines` for lines, on `kc_files` for files that are replaced whole, on `kc_wishes` for what words ask for, and on `clap`
-//! for the kinds of its replies.
+//! The crate stands on `kc_io` for sources and sinks, on `kc_text` for what a text means, on `kc_dialect` and `kc_dialect_read` for dialects, on
+//! `kc_names` for names, on `kc_head` for the head of a text, on `kc_flat` and `kc_graph` for core numbers, on `kc_tally` for layers, on
+//! `kc_claims` for certificates, on `kc_threads` for who reads a graph, on `kc_keeper` for who makes the batches of a stream, on `kc_wire`,
+//! `kc_dialogue`, `kc_stream` and `kc_watch` for streams, on `kc_lines` for lines, on `kc_files` for files that are replaced whole, on `kc_wishes`
+//! for what words ask for, and on `clap` for the kinds of its replies.
 #![tactic(auto)]
 
 pub mod answer;

@@ -18,13 +18,15 @@ use kc_io::mem_sink::MemSink;
 use kc_io::sink::Sink;
 use kc_io::source::Source;
 use kc_keeper::KeeperAlone;
+use kc_threads::CallerAlone;
 use kc_wire::mem_wire::MemWire;
 use kc_wire::wire::Wire;
 use std::alloc::Global;
 use std::convert::AsStr;
 
 /// A run from memory to memory. It is [`answer`], and what is known of the streams are their bytes. So the clauses on the bytes that
-/// are read and taken are told once more, of the very bytes. The keeper makes all batches alone.
+/// are read and taken are told once more, of the very bytes. The keeper makes all batches alone, and no
+/// thread is started.
 ///
 /// # Example
 ///
@@ -80,5 +82,5 @@ pub fn answer_in_memory<W: AsStr>(
         → bytes_in streams.old.input query.graph.file ≡ Some bytes → result ≡ CoresStatus.Refused
         → (n : ℕ) × (kind : Kind) × (graph_meaning query.graph.dialect bytes ≡ Refuses n kind) × (streams.new.out.sink.taken ≡ streams.old.out.sink.taken) }
 {
-    answer(alloc, &KeeperAlone, words, streams, folder)
+    answer(alloc, &KeeperAlone, &CallerAlone, words, streams, folder)
 }

@@ -25,6 +25,7 @@ use kc_flat::{Decomposition, FlatGraph, decompose_telling};
 use kc_graph::NoMemory;
 use kc_head::Foreign;
 use kc_lines::page::Page;
+use kc_threads::Hands;
 use kc_wishes::Request;
 use std::alloc::Global;
 
@@ -56,8 +57,9 @@ fn told_of(
 }
 
 /// Reads the graph of the input, and makes the lines that are asked for. The input is told how far that is.
-fn made<I: FileInput>(
+fn made<H: Hands, I: FileInput>(
     alloc: Global,
+    hands: &H,
     request: Request<'_>,
     input: &mut I,
 ) -> Result<Prepared, Ending>
@@ -75,7 +77,7 @@ fn made<I: FileInput>(
         graph,
         skipped,
         what,
-    } = read_graph(alloc, request.graph, input)?;
+    } = read_graph(alloc, hands, request.graph, input)?;
     let Decomposition { core, order } = decompose_telling(alloc, &graph, input)?;
     let told = told_of(alloc, request.graph.file, what, &skipped, &graph, &core)?;
     let listing = listing_of(alloc, request.task, &graph, &core, order)?;
@@ -93,8 +95,9 @@ fn made<I: FileInput>(
 
 /// Reads the graph of the input, and makes the lines that are asked for. While it does so the input is told how far that is, but for a run
 /// that is to tell nothing.
-pub(crate) fn prepare<I: FileInput>(
+pub(crate) fn prepare<H: Hands, I: FileInput>(
     alloc: Global,
+    hands: &H,
     request: Request<'_>,
     input: &mut I,
 ) -> Result<Prepared, Ending>
@@ -109,7 +112,7 @@ pub(crate) fn prepare<I: FileInput>(
     if !request.quiet {
         input.begin();
     }
-    let prepared = made(alloc, request, input);
+    let prepared = made(alloc, hands, request, input);
     input.end();
     prepared
 }

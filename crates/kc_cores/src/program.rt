@@ -17,6 +17,7 @@ use kc_args::words_of;
 use kc_files::folder::Folder;
 use kc_io::sink::Sink;
 use kc_keeper::BatchMaker;
+use kc_threads::Hands;
 use kc_wire::wire::Wire;
 use std::alloc::Global;
 use std::env::Args;
@@ -37,6 +38,7 @@ fn exit_with(status: CoresStatus) -> ExitCode
 /// Where there is no memory for the words, the status is `NoMemory`, and nothing was read or written.
 pub fn answer_on<
     M: BatchMaker,
+    H: Hands,
     I: FileInput,
     C: FileInput,
     O: PipeSink,
@@ -46,6 +48,7 @@ pub fn answer_on<
 >(
     alloc: Global,
     maker: &M,
+    hands: &H,
     args: io::Result<Args>,
     streams: &mut CoresStreams<I, C, O, E, L>,
     folder: &mut P,
@@ -62,6 +65,6 @@ pub fn answer_on<
 {
     match words_of(alloc, args) {
         Err(_) => exit_with(CoresStatus::NoMemory),
-        Ok(words) => exit_with(answer(alloc, maker, words.as_slice(), streams, folder)),
+        Ok(words) => exit_with(answer(alloc, maker, hands, words.as_slice(), streams, folder)),
     }
 }

@@ -17,8 +17,9 @@ use kc_graph::NoMemory;
 use kc_head::{Foreign, HeadFault, read_head, wrong_column};
 use kc_io::source::Source;
 use kc_names::Names;
-use kc_read::{InputFault, read_edges};
+use kc_read::{InputFault, read_edges_by};
 use kc_text::{Limits, NamedEdges};
+use kc_threads::Hands;
 use kc_wishes::NamedText;
 use std::alloc::Global;
 
@@ -67,9 +68,20 @@ fn look<I: FileInput>(
     }
 }
 
-/// The ids and edges that all bytes of the source tell as they are, behind a byte order mark. The text is not held.
-fn plain_edges<S: Source>(
+/// By how many threads the hands read and make a graph: by as many as they are where that is not said.
+fn threads_for<H: Hands>(hands: &H, threads: Option<u32>) -> u32 {
+    match threads {
+        None => hands.threads(),
+        Some(threads) => threads,
+    }
+}
+
+/// The ids and edges that all bytes of the source tell as they are, behind a byte order mark. The text is not held. Its lines may be read by
+/// so many threads; no clause tells who read them.
+fn plain_edges<H: Hands, S: Source>(
     alloc: Global,
+    hands: &H,
+    threads: Option<u32>,
     file: Option<&str>,
     head: &[u8],
     source: &mut S,
@@ -77,11 +89,12 @@ fn plain_edges<S: Source>(
     ensures edges { (known : Option (List ℕ)) → IsLookedAt None known (S.left source.old) head.now → IfOk result (AreReadFrom None known) }
     ensures read { OnOk result (IsAtEnd (S.left source.new)) }
     ensures stopped { (known : Option (List ℕ)) → IsLookedAt None known (S.left source.old) head.now
-        → IfErr result (λ ending. HasNoGraph ending (record { file = option_map (λ t. t.now) file.entry; dialect = None })
+        → IfErr result (λ ending. HasNoGraph ending (record { file = option_map (λ t. t.now) file.entry; dialect = None; threads = threads })
         known (S.faults source.old) (S.faults source.new)) }
     ensures faultless { OnOk result (S.faults source.new ≡ S.faults source.old) }
 {
-    match read_edges(alloc, source, Limits::GRAPH) {
+    let most = threads_for(hands, threads);
+    match read_edges_by(alloc, hands, most, source, Limits::GRAPH) {
         Ok(named) => Ok(DialectEdges {
             named,
             skipped: SkippedLines {
@@ -99,6 +112,7 @@ fn plain_edges<S: Source>(
             let text = NamedText {
                 file,
                 dialect: None,
+                threads,
             };
             Err(refused(alloc, text, placed, head))
         }
@@ -106,11 +120,12 @@ fn plain_edges<S: Source>(
     }
 }
 
-/// The ids and edges that all bytes of the source tell in a dialect, and the bad lines. The text is not held.
+/// The ids and edges that all bytes of the source tell in a dialect, and the bad lines. The text is not held, and one thread reads it.
 fn dialect_edges<S: Source>(
     alloc: Global,
     file: Option<&str>,
     dialect: Dialect,
+    threads: Option<u32>,
     head: &[u8],
     source: &mut S,
 ) -> Result<DialectEdges, Ending>
@@ -118,7 +133,8 @@ fn dialect_edges<S: Source>(
         → IfOk result (AreReadFrom (Some dialect) known) }
     ensures read { OnOk result (IsAtEnd (S.left source.new)) }
     ensures stopped { (known : Option (List ℕ)) → IsLookedAt (Some dialect) known (S.left source.old) head.now
-        → IfErr result (λ ending. HasNoGraph ending (record { file = option_map (λ t. t.now) file.entry; dialect = Some dialect })
+        → IfErr result (λ ending. HasNoGraph ending
+        (record { file = option_map (λ t. t.now) file.entry; dialect = Some dialect; threads = threads })
         known (S.faults source.old) (S.faults source.new)) }
     ensures faultless { OnOk result (S.faults source.new ≡ S.faults source.old) }
 {
@@ -129,6 +145,7 @@ fn dialect_edges<S: Source>(
             let text = NamedText {
                 file,
                 dialect: Some(dialect),
+                threads,
             };
             Err(refused(alloc, text, placed, head))
         }
@@ -137,8 +154,9 @@ fn dialect_edges<S: Source>(
 }
 
 /// The ids and edges that all bytes of the source tell, whose head was looked at.
-fn edges_from<S: Source>(
+fn edges_from<H: Hands, S: Source>(
     alloc: Global,
+    hands: &H,
     text: NamedText<'_>,
     head: &[u8],
     source: &mut S,
@@ -151,14 +169,16 @@ fn edges_from<S: Source>(
     ensures faultless { OnOk result (S.faults source.new ≡ S.faults source.old) }
 {
     match text.dialect {
-        None => plain_edges(alloc, text.file, head, source),
-        Some(dialect) => dialect_edges(alloc, text.file, dialect, head, source),
+        None => plain_edges(alloc, hands, text.threads, text.file, head, source),
+        Some(dialect) => dialect_edges(alloc, text.file, dialect, text.threads, head, source),
     }
 }
 
 /// The graph of what was read, and what the text may be that is no lines of a graph.
-fn graph_of(
+fn graph_of<H: Hands>(
     alloc: Global,
+    hands: &H,
+    threads: Option<u32>,
     what: Option<Foreign>,
     found: DialectEdges,
 ) -> Result<NamedGraph, NoMemory>
@@ -175,7 +195,8 @@ fn graph_of(
         names,
     } = found;
     let NamedEdges { ids, edges } = named;
-    let graph = FlatGraph::from_pairs(alloc, ids.len() as u32, &edges)?;
+    let most = threads_for(hands, threads);
+    let graph = hands.make_graph(alloc, most, ids.len() as u32, &edges)?;
     Ok(NamedGraph {
         ids,
         names,
@@ -186,8 +207,9 @@ fn graph_of(
 }
 
 /// The graph of all that the source has left, whose head was looked at.
-fn graph_behind<S: Source>(
+fn graph_behind<H: Hands, S: Source>(
     alloc: Global,
+    hands: &H,
     text: NamedText<'_>,
     head: &[u8],
     source: &mut S,
@@ -199,14 +221,15 @@ fn graph_behind<S: Source>(
         → IfErr result (λ ending. HasNoGraph ending (text_of text.entry) known (S.faults source.old) (S.faults source.new)) }
     ensures faultless { OnOk result (S.faults source.new ≡ S.faults source.old) }
 {
-    let found = edges_from(alloc, text, head, source)?;
+    let found = edges_from(alloc, hands, text, head, source)?;
     let what = remark_on(text.dialect, head, &found.named);
-    Ok(graph_of(alloc, what, found)?)
+    Ok(graph_of(alloc, hands, text.threads, what, found)?)
 }
 
 /// The graph of all that the input has left.
-fn graph_from<I: FileInput>(
+fn graph_from<H: Hands, I: FileInput>(
     alloc: Global,
+    hands: &H,
     text: NamedText<'_>,
     input: &mut I,
 ) -> Result<NamedGraph, Ending>
@@ -217,7 +240,7 @@ fn graph_from<I: FileInput>(
     ensures faultless { OnOk result (I.faults input.new ≡ I.faults input.old) }
 {
     let head = look(alloc, text.dialect, input)?;
-    graph_behind(alloc, text, &head, input)
+    graph_behind(alloc, hands, text, &head, input)
 }
 
 /// Turns to the file, where one is named.
@@ -234,9 +257,11 @@ fn turn_to<I: FileInput>(alloc: Global, text: NamedText<'_>, input: &mut I) -> R
     }
 }
 
-/// The graph of the text of the file, or of standard input where none is named.
-pub(crate) fn read_graph<I: FileInput>(
+/// The graph of the text of the file, or of standard input where none is named. The hands read it and make the graph, by as many threads as
+/// the text names.
+pub(crate) fn read_graph<H: Hands, I: FileInput>(
     alloc: Global,
+    hands: &H,
     text: NamedText<'_>,
     input: &mut I,
 ) -> Result<NamedGraph, Ending>
@@ -248,5 +273,5 @@ pub(crate) fn read_graph<I: FileInput>(
     ensures faultless { OnOk result (I.faults input.new ≡ I.faults input.old) }
 {
     turn_to(alloc, text, input)?;
-    graph_from(alloc, text, input)
+    graph_from(alloc, hands, text, input)
 }

@@ -17,6 +17,7 @@ use crate::prepared::{Prepared, prepare};
 use kc_files::fault::FolderFault;
 use kc_files::folder::{Folder, Unplaced};
 use kc_graph::NoMemory;
+use kc_threads::Hands;
 use kc_wishes::SaveRequest;
 use std::alloc::Global;
 
@@ -81,8 +82,9 @@ fn save_lines<P: Folder>(lines: MadeLines, name: &str, folder: &mut P) -> Result
 }
 
 /// Reads the graph of the input, and makes the lines that are asked for the file of this name.
-pub(crate) fn save<I: FileInput, P: Folder>(
+pub(crate) fn save<H: Hands, I: FileInput, P: Folder>(
     alloc: Global,
+    hands: &H,
     request: SaveRequest<'_>,
     input: &mut I,
     folder: &mut P,
@@ -90,7 +92,7 @@ pub(crate) fn save<I: FileInput, P: Folder>(
     ensures { SaveEnded I.Source I.behind P.holds P.failed request.entry.file.now (query_of request.entry.lines) result.status (line_of result)
         input.old input.new folder.old folder.new }
 {
-    let Prepared { lines, told } = match prepare(alloc, request.lines, input) {
+    let Prepared { lines, told } = match prepare(alloc, hands, request.lines, input) {
         Ok(prepared) => prepared,
         Err(ending) => return ending,
     };

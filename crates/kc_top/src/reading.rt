@@ -8,7 +8,8 @@ ghost use Rattle.kc_top.specs.Stops.{HasNoText, IsRefusalOf};
 use crate::ending::{Stop, refused};
 use kc_io::source::{ReadAllFault, Source, read_all};
 use kc_report::generate;
-use kc_text::{Input, Kind, Limits, ParseFault, Refusal, parse};
+use kc_text::{Input, Kind, Limits, ParseFault, Refusal, parse_by};
+use kc_threads::{Crew, Threaded};
 use std::alloc::Global;
 
 /// The input as a whole has too many bytes.
@@ -51,24 +52,28 @@ fn bytes_of<S: Source>(
     }
 }
 
-/// The input that the bytes give, which are dropped.
-fn parsed(alloc: Global, bytes: Vec<u8>) -> Result<Input, Stop>
+/// The input that the bytes give, which are dropped. Up to so many threads of the crew read their lines.
+fn parsed<C: Crew>(alloc: Global, crew: &C, threads: u32, bytes: Vec<u8>) -> Result<Input, Stop>
+    requires shareable { ∥ C.shareable crew.now ∥₁ }
     ensures input { IfOk result (IsReadFrom (Some bytes.items)) }
     ensures stopped { IfErr result (λ stop. IsRefusalOf stop bytes.items) }
 {
-    match parse(alloc, Limits::KCORE, &bytes) {
+    match parse_by(alloc, Limits::KCORE, &Threaded::new(crew), threads, &bytes) {
         Ok(input) => Ok(input),
         Err(ParseFault::Refused(refusal)) => Err(refused(alloc, refusal)),
         Err(ParseFault::NoMemory) => Err(Stop::NoMemory),
     }
 }
 
-/// The input of the run, from the generator's number or the source.
-pub(crate) fn input_of<S: Source>(
+/// The input of the run, from the generator's number or the source. Up to so many threads of the crew read its lines.
+pub(crate) fn input_of<C: Crew, S: Source>(
     alloc: Global,
+    crew: &C,
+    threads: u32,
     generator: Option<u32>,
     source: &mut S,
 ) -> Result<Input, Stop>
+    requires shareable { ∥ C.shareable crew.now ∥₁ }
     ensures input { IfOk result (IsReadFrom (generated_or generator (S.left source.old))) }
     ensures read { OnOk result (generator ≡ None → IsAtEnd (S.left source.new)) }
     ensures unread { is_some generator ≡ true → source.new ≡ source.old }
@@ -77,5 +82,5 @@ pub(crate) fn input_of<S: Source>(
     ensures faultless { OnOk result (S.faults source.new ≡ S.faults source.old) }
 {
     let bytes = bytes_of(alloc, generator, source)?;
-    parsed(alloc, bytes)
+    parsed(alloc, crew, threads, bytes)
 }

@@ -18,6 +18,7 @@ use kc_io::sink::{Sink, write_all};
 use kc_io::source::Source;
 use kc_output::{Setting, text_of};
 use kc_run::Ran;
+use kc_threads::RuntimeCrew;
 use kc_workers::Gate;
 use std::alloc::Global;
 use std::sync::Wait;
@@ -42,7 +43,8 @@ fn text_for<S: Source, G: Gate + Sync, R: Threads + Wait + Sync>(
     ensures stopped { IfErr result (λ stop. HasNoText stop (given (Some setting) (S.left source.old)) (S.faults source.old) (S.faults source.new)) }
     ensures faultless { OnOk result (S.faults source.new ≡ S.faults source.old) }
 {
-    let input = input_of(alloc, setting.generator, source)?;
+    let crew = RuntimeCrew { rt };
+    let input = input_of(alloc, &crew, setting.workers, setting.generator, source)?;
     Ok(text_of(rt, alloc, setting, input, gate, ran)?)
 }
 
@@ -123,7 +125,8 @@ fn work<S: Source, O: Sink, E, G: Gate + Sync, R: Threads + Wait + Sync>(
 /// - `took`: `err` took that line, or a prefix of it where a call failed.
 /// - `offered`: it was offered the whole line first, so the status is fixed before the sink answers.
 ///
-/// As many workers as the words ask for enter the updates of each batch, and `gate` is called before each of their tries. Where the words
+/// As many threads as the words ask for workers read the lines of a large input, and as many workers enter the updates of each batch.
+/// `gate` is called before each of their tries. Where the words
 /// ask for rounds of h-indices, `rt` runs these in threads. No clause says so, and tests show it: one counts the calls of `gate`, and one
 /// counts the shares. Nor does a clause say how many tries were in vain.
 ///

@@ -28,7 +28,7 @@ RepliesTo reply.NoMemory wish = ⊤
 
 -- the text that words name
 abbrev pub text_of : NamedText → GraphText
-text_of named = record { file = option_map (λ name. name.now) named.file; dialect = named.dialect }
+text_of named = record { file = option_map (λ name. name.now) named.file; dialect = named.dialect; threads = named.threads }
 
 -- what a request asks for
 abbrev pub query_of : Request → Query

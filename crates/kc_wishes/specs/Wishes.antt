@@ -31,6 +31,7 @@ use Rattle.kc_reply.specs.declared.reply_format.ReplyFormat.{ReplyFormat}
 use Rattle.kc_reply.specs.declared.reply_format.ReplyFormat.TheVariants as written
 use Rattle.kc_watch.specs.declared.options.WatchOptions.{WatchOptions}
 use Rattle.kc_queue.specs.declared.consumer.TheConstants.{WORKERS}
+use Rattle.kc_threads.specs.declared.crew.TheConstants.{MOST_THREADS}
 use Rattle.kc_lines.specs.declared.format.Format.{Format}
 use Rattle.kc_lines.specs.declared.format.Format.TheVariants.{Json, Tabs}
 use Rattle.kc_wishes.specs.declared.request.Task.{Task}
@@ -74,9 +75,14 @@ writing_command name = with_rule (with_rule (quiet_command name) format_option) 
 abbrev pub ids_option : Rule
 ids_option = value_option (codes "ids")
 
+-- `--threads N`, with a number of 32 bits
+abbrev pub threads_option : Rule
+threads_option = record (value_option (codes "threads")) { parser = Some (Signed (pos 0) (pos 4294967295)) }
+
 -- the command of a task, which takes the name of a file
 abbrev pub task_command : Text → App
-task_command name = with_rule (with_rule (with_dialect (writing_command name)) ids_option) (new_rule (codes "FILE"))
+task_command name =
+    with_rule (with_rule (with_rule (with_dialect (writing_command name)) ids_option) threads_option) (new_rule (codes "FILE"))
 
 -- The command that reads the words, without those of the tasks. The words are those after the program's name.
 abbrev pub bare_command : App
@@ -128,9 +134,13 @@ pieces_option = record (value_option (codes "pieces")) { range = Some (record { 
 abbrev pub certificate_command : App
 certificate_command = with_rule (new_app (codes "check")) certificate_rule
 
+-- the command that checks a certificate with the options about a stream, without what is said of a text that is read whole
+abbrev pub sweep_command : App
+sweep_command = with_rule (with_rule (with_dialect certificate_command) stream_flag) pieces_option
+
 -- the command that checks a certificate
 abbrev pub check_command : App
-check_command = with_rule (with_rule (with_rule (with_dialect certificate_command) stream_flag) pieces_option) (new_rule (codes "FILE"))
+check_command = with_rule (with_rule sweep_command threads_option) (new_rule (codes "FILE"))
 
 -- the command with those of all tasks
 abbrev pub with_tasks : App
@@ -173,10 +183,12 @@ watch_command = with_saving (with_start (with_answers (with_rule stream_command 
 abbrev pub cores_command : App
 cores_command = with_subcommand (with_subcommand with_tasks check_command.top) watch_command.top
 
--- The text of a graph: that of a file, or of standard input where no file is named, in a dialect where one is asked for.
+-- The text of a graph: that of a file, or of standard input where no file is named, in a dialect where one is asked for. It is read by so many
+-- threads, or by as many as there are processors where nothing is said of them.
 pub record GraphText : Type 0 where
   pub file : Option Text
   pub dialect : Option Dialect
+  pub threads : Option ℕ
 
 -- A task for the graph of a text, and how its lines are written. Where it is quiet, the run tells nothing of itself once it is done.
 pub record Query : Type 0 where
@@ -226,6 +238,15 @@ is_number ds = nat_lt 0 (length ds) && list_all (λ d. nat_lt (digit_value d) 10
 -- the number that a text is, before which there may be a plus sign
 abbrev pub number_of : Text → Option ℕ
 number_of text = if is_number (without_leading_plus text) then Some (digits_value 10 (without_leading_plus text)) else None
+
+-- a number from 1 to `most`
+abbrev pub counted_from_one : ℕ → Text → Option ℕ
+counted_from_one most text = option_and_then (λ n. if nat_lt 0 n && nat_le n most then Some n else None) (number_of text)
+
+-- by how many threads a text is read, where that is said
+abbrev pub threads_in : Option Text → Option (Option ℕ)
+threads_in None = Some None
+threads_in (Some text) = option_map (λ n. Some n) (counted_from_one MOST_THREADS text)
 
 -- the K of a K-core, where it is given; there is none where it is no number
 abbrev pub level_in : Option Text → Option (Option ℕ)
@@ -346,16 +367,17 @@ dialect_by columns separator skip bad kind file =
     if tells_none columns separator skip bad kind file then Some None
     else option_map (λ d. Some d) (dialect_of (columns_in columns) (separator_in separator file) (skip_in skip) (bad_lines_in bad) (ids_in kind))
 
--- the text of a file in a dialect, where the dialect is right
-abbrev pub text_with : Option Text → Option (Option Dialect) → Option GraphText
-text_with file None = None
-text_with file (Some dialect) = Some (record { file = file; dialect = dialect })
+-- the text of a file in a dialect, read by so many threads, where both are right
+abbrev pub text_with : Option Text → Option (Option Dialect) → Option (Option ℕ) → Option GraphText
+text_with file None threads = None
+text_with file (Some dialect) None = None
+text_with file (Some dialect) (Some threads) = Some (record { file = file; dialect = dialect; threads = threads })
 
 -- the text of a graph of a file, by the matches of a command
 abbrev pub text_by : Option Text → List Row → Option GraphText
 text_by file rows =
     text_with file (dialect_by (first_of (codes "columns") rows) (first_of (codes "separator") rows) (first_of (codes "skip") rows)
-    (first_of (codes "bad-lines") rows) (first_of (codes "ids") rows) file)
+    (first_of (codes "bad-lines") rows) (first_of (codes "ids") rows) file) (threads_in (first_of (codes "threads") rows))
 
 -- the text of a graph, by the matches of a command
 abbrev pub text_in : List Row → Option GraphText
@@ -387,18 +409,23 @@ wish_for (Some task) (Some graph) (Some format) output quiet =
 abbrev pub all_of : Text → List Row → List Text
 all_of id rows = option_map_or (λ (r : Row). r.values) (find (λ (r : Row). bytes_eq r.id id) rows) []
 
--- the check of a certificate for an ascending stream, which is in no dialect
-abbrev pub stream_wish : Text → Option Text → Option Dialect → Wish
-stream_wish name file None = ChecksStream name (option_to_list file)
-stream_wish name file (Some dialect) = Replies (ValueValidation ∷ [])
+-- the check of a certificate for an ascending stream, which is in no dialect, and of whose threads nothing is said
+abbrev pub stream_wish : Text → Option Text → Option Dialect → Option ℕ → Wish
+stream_wish name file None None = ChecksStream name (option_to_list file)
+stream_wish name file None (Some threads) = Replies (ValueValidation ∷ [])
+stream_wish name file (Some dialect) threads = Replies (ValueValidation ∷ [])
 
 -- whether the name of a file tells another separator than blanks
 abbrev pub tells_separator : Text → Bool
 tells_separator name = not (is_blank_between (separator_of_name name))
 
--- whether words ask for no other text than those of these files, and none of them is in a dialect
+-- whether nothing is said of a text but its file
+abbrev pub tells_file_alone : GraphText → Bool
+tells_file_alone graph = not (is_some graph.dialect) && not (is_some graph.threads)
+
+-- whether words ask for no other text than those of these files, and nothing else is said of these
 abbrev pub are_pieces : GraphText → Bool → List Text → Bool
-are_pieces graph stream files = not stream && not (is_some graph.file) && not (is_some graph.dialect) && not (list_any tells_separator files)
+are_pieces graph stream files = not stream && not (is_some graph.file) && tells_file_alone graph && not (list_any tells_separator files)
 
 -- the check of a certificate for an ascending stream in files, where no other text is asked for
 abbrev pub pieces_wish : Text → GraphText → Bool → List Text → Wish
@@ -406,7 +433,7 @@ pieces_wish name graph stream files = if are_pieces graph stream files then Chec
 
 -- the check of a certificate for the graph of a text, or for the text as an ascending stream, or for that of files
 abbrev pub check_of : Text → GraphText → Bool → List Text → Wish
-check_of name graph stream [] = if stream then stream_wish name graph.file graph.dialect else Checks name graph
+check_of name graph stream [] = if stream then stream_wish name graph.file graph.dialect graph.threads else Checks name graph
 check_of name graph stream (file ∷ files) = pieces_wish name graph stream (file ∷ files)
 
 -- what the command `check` asks for, by the name of the certificate, the text of a graph, whether it is a stream, and its files
@@ -451,10 +478,6 @@ reply_format_of text =
 abbrev pub reply_format_in : Option Text → Option ReplyFormat
 reply_format_in None = Some written.Words
 reply_format_in (Some text) = reply_format_of text
-
--- a number from 1 to `most`
-abbrev pub counted_from_one : ℕ → Text → Option ℕ
-counted_from_one most text = option_and_then (λ n. if nat_lt 0 n && nat_le n most then Some n else None) (number_of text)
 
 -- by how many workers a batch of a stream may be made: by one where nothing else is said
 abbrev pub workers_in : Option Text → Option ℕ

@@ -1,4 +1,4 @@
-//! The words about the text of a graph: its file, and the dialect that it is in.
+//! The words about the text of a graph: its file, the dialect that it is in, and by how many threads it is read.
 ghost use Rattle.std.specs.Prelude.{◌≡◌, IfOk, false, option_map};
 ghost use Rattle.clap.specs.Matches.{found_of};
 ghost use Rattle.clap.specs.Simple.{app_of};
@@ -6,7 +6,7 @@ ghost use Rattle.clap.specs.Walk.{rows_of, rule_of};
 ghost use Rattle.clap.specs.declared.builder.command.Command.TheViews.{out-Command};
 ghost use Rattle.kc_wishes.specs.Requests.{text_of};
 ghost use Rattle.kc_wishes.specs.Wishes.{bad_lines_in, bad_lines_of, both_columns, columns_in, columns_of, dialect_by, dialect_of, file_named, ids_in, ids_of};
-ghost use Rattle.kc_wishes.specs.Wishes.{ids_option};
+ghost use Rattle.kc_wishes.specs.Wishes.{counted_from_one, ids_option, threads_in, threads_option};
 ghost use Rattle.kc_wishes.specs.Wishes.{is_blank_between, number_of, separator_in, separator_of, separator_of_file, skip_in, skip_option};
 ghost use Rattle.kc_wishes.specs.Wishes.{tells_none, tells_separator, text_by, text_in, text_with, value_option, with_dialect};
 
@@ -14,6 +14,7 @@ use crate::request::NamedText;
 use clap::{Arg, ArgAction, ArgMatches, Command};
 use kc_dialect::{BadLines, Dialect, Ids, Separator, separator_of_name};
 use kc_graph::NoMemory;
+use kc_threads::MOST_THREADS;
 use std::alloc::Global;
 
 /// An option that takes a value.
@@ -59,6 +60,21 @@ pub(crate) fn ids_option<'a>(alloc: Global) -> Arg<'a>
     )
 }
 
+/// The option `--threads N`.
+pub(crate) fn threads_option<'a>(alloc: Global) -> Arg<'a>
+    ensures rule { rule_of result ≡ threads_option }
+    ensures local { result.global ≡ false }
+{
+    Arg::new(alloc, "threads")
+        .long("threads")
+        .action(ArgAction::Set)
+        .value_name("N")
+        .value_parser(clap::value_parser!(u32))
+        .help(
+            "Reads the graph by N threads, 1 to 64, or one for each processor; the answer is the same",
+        )
+}
+
 /// The command with the options of a dialect.
 pub(crate) fn with_dialect<'a>(alloc: Global, command: Command<'a>) -> Result<Command<'a>, NoMemory>
     requires { (out-Command command).has_globals ≡ false }
@@ -92,6 +108,23 @@ pub(crate) fn number_of(text: &str) -> Option<u32>
     ensures { result ≡ number_of text.now }
 {
     text.parse::<u32>().ok()
+}
+
+/// A number from 1 to `most`.
+pub(crate) fn counted_from_one(most: u32, text: &str) -> Option<u32>
+    ensures { result ≡ counted_from_one most text.now }
+{
+    number_of(text).filter(|number| *number >= 1 && *number <= most)
+}
+
+/// By how many threads a text is read, where that is said.
+fn threads_in(text: Option<&str>) -> Option<Option<u32>>
+    ensures { result ≡ threads_in (option_map (λ t. t.now) text.entry) }
+{
+    match text {
+        None => Some(None),
+        Some(text) => Some(Some(counted_from_one(MOST_THREADS, text)?)),
+    }
 }
 
 /// Two columns, which are different numbers from 1 on.
@@ -308,13 +341,21 @@ pub(crate) fn file_named<'a>(word: Option<&'a str>) -> Option<&'a str>
     }
 }
 
-/// The text of a file in a dialect, where the dialect is right.
-fn text_with<'a>(file: Option<&'a str>, dialect: Option<Option<Dialect>>) -> Option<NamedText<'a>>
-    ensures { option_map text_of result ≡ text_with (option_map (λ t. t.now) file.entry) dialect }
+/// The text of a file in a dialect, read by so many threads, where both are right.
+fn text_with<'a>(
+    file: Option<&'a str>,
+    dialect: Option<Option<Dialect>>,
+    threads: Option<Option<u32>>,
+) -> Option<NamedText<'a>>
+    ensures { option_map text_of result ≡ text_with (option_map (λ t. t.now) file.entry) dialect threads }
 {
-    match dialect {
-        None => None,
-        Some(dialect) => Some(NamedText { file, dialect }),
+    match (dialect, threads) {
+        (Some(dialect), Some(threads)) => Some(NamedText {
+            file,
+            dialect,
+            threads,
+        }),
+        _ => None,
     }
 }
 
@@ -327,9 +368,11 @@ fn text_by<'a>(file: Option<&'a str>, found: &ArgMatches<'a>) -> Option<NamedTex
     let skip = found.get_str("skip");
     let bad_lines = found.get_str("bad-lines");
     let ids = found.get_str("ids");
+    let threads = found.get_str("threads");
     text_with(
         file,
         dialect_by(columns, separator, skip, bad_lines, ids, file),
+        threads_in(threads),
     )
 }
 

@@ -31,6 +31,8 @@ pub struct NamedText<'a> {
     pub file: Option<&'a str>,
     /// The dialect of the text, where words or the name of the file tell one. Without one the text is plain: two ids a line.
     pub dialect: Option<Dialect>,
+    /// By how many threads the text is read and its graph made, from 1 to 64; by as many as there are processors where words tell none.
+    pub threads: Option<u32>,
 }
 
 /// The check of a certificate, for the graph of a text.

@@ -6,10 +6,10 @@ ghost use Rattle.clap.specs.Walk.{rule_of};
 ghost use Rattle.clap.specs.declared.builder.command.Command.TheViews.{out-Command};
 ghost use Rattle.kc_wishes.specs.Requests.{plan_of, start_of, stream_of_request};
 ghost use Rattle.kc_wishes.specs.Wishes.{enter_option, options_of, show_in, show_of, stream_bad_lines_in, stream_bad_lines_of, stream_command};
-ghost use Rattle.kc_wishes.specs.Wishes.{counted_from_one, every_in, every_option, save_in, saved_to, start_in, stream_of, watch_command, with_answers};
+ghost use Rattle.kc_wishes.specs.Wishes.{every_in, every_option, save_in, saved_to, start_in, stream_of, watch_command, with_answers};
 ghost use Rattle.kc_wishes.specs.Wishes.{format_option, reply_format_in, reply_format_of, with_saving, with_start, workers_in, workers_option};
 
-use crate::dialect_words::{number_of, value_option};
+use crate::dialect_words::{counted_from_one, value_option};
 use crate::request::{SavePlan, StreamStart, WatchRequest};
 use clap::{Arg, ArgAction, Command};
 use kc_graph::NoMemory;
@@ -262,13 +262,6 @@ pub(crate) fn start_in<'a>(from: Option<&'a str>, load: Option<&'a str>) -> Opti
         (None, Some(file)) => Some(StreamStart::Load(file)),
         (Some(_), Some(_)) => None,
     }
-}
-
-/// A number from 1 to `most`.
-fn counted_from_one(most: u32, text: &str) -> Option<u32>
-    ensures { result ≡ counted_from_one most text.now }
-{
-    number_of(text).filter(|number| *number >= 1 && *number <= most)
 }
 
 /// Behind how many batches the state of a stream is saved anew, where that is said.

@@ -14,12 +14,12 @@ ghost use Rattle.kc_wishes.specs.Wishes.{Replies, bare_command, certificate_comm
 ghost use Rattle.kc_wishes.specs.Wishes.{cores_command, edges_flag};
 ghost use Rattle.kc_wishes.specs.Wishes.{is_set, level_in, members_command, members_in, members_task, quiet_command, quiet_flag};
 ghost use Rattle.kc_wishes.specs.Wishes.{options_in, stream_in, task_command, task_in, watch_wish, wish_about, wish_by, wish_for, wish_in, wish_of, with_cores};
-ghost use Rattle.kc_wishes.specs.Wishes.{are_pieces, pieces_option, pieces_wish, stream_flag, stream_wish, tells_separator, wish_to, with_tasks};
+ghost use Rattle.kc_wishes.specs.Wishes.{are_pieces, pieces_option, sweep_command, tells_file_alone, pieces_wish, stream_flag, stream_wish, tells_separator, wish_to, with_tasks};
 ghost use Rattle.kc_wishes.specs.Wishes.{writing_command};
 ghost use Rattle.kc_wishes.specs.Requests.{IsReplyFor, IsRequestFor, RepliesTo, query_of, stream_of_request, text_of};
 
 use crate::dialect_words::{
-    file_named, ids_option, number_of, tells_separator, text_in, with_dialect,
+    file_named, ids_option, number_of, tells_separator, text_in, threads_option, with_dialect,
 };
 use crate::output_words::{format_in, format_option, output_option};
 use crate::request::{
@@ -113,7 +113,8 @@ fn task_command<'a>(
     ensures local { IfOk result (λ made. (out-Command made).has_globals ≡ false) }
 {
     let command = with_dialect(alloc, writing_command(alloc, name, about, example)?)?;
-    command.arg(ids_option(alloc))?.arg(edges_rule(alloc))
+    let named = command.arg(ids_option(alloc))?;
+    named.arg(threads_option(alloc))?.arg(edges_rule(alloc))
 }
 
 /// The command whose words are read, without those of the tasks.
@@ -280,14 +281,22 @@ fn edges_rule<'a>(alloc: Global) -> Arg<'a>
     )
 }
 
+/// The command `check` with the options about a stream, without what is said of a text that is read whole.
+fn sweep_command<'a>(alloc: Global) -> Result<Command<'a>, NoMemory>
+    ensures app { IfOk result (λ made. app_of made ≡ sweep_command) }
+    ensures local { IfOk result (λ made. (out-Command made).has_globals ≡ false) }
+{
+    let command = with_dialect(alloc, certificate_command(alloc)?)?;
+    command.arg(stream_flag(alloc))?.arg(pieces_option(alloc))
+}
+
 /// The command `check`.
 fn check_command<'a>(alloc: Global) -> Result<Command<'a>, NoMemory>
     ensures app { IfOk result (λ made. app_of made ≡ check_command) }
     ensures local { IfOk result (λ made. (out-Command made).has_globals ≡ false) }
 {
-    let command = with_dialect(alloc, certificate_command(alloc)?)?;
-    let streamed = command.arg(stream_flag(alloc))?.arg(pieces_option(alloc))?;
-    streamed.arg(edges_rule(alloc))
+    let command = sweep_command(alloc)?;
+    command.arg(threads_option(alloc))?.arg(edges_rule(alloc))
 }
 
 /// The command whose words are read.
@@ -392,7 +401,7 @@ fn wrong_value(alloc: Global) -> Reply
     match String::from_str(
         alloc,
         "cores: --columns takes two unlike numbers, as 1,2; --separator blank, comma, semicolon or tab; --bad-lines stop or skip; \
-         --ids numbers or names; --format tsv or json\n",
+         --ids numbers or names; --format tsv or json; --threads 1 to 64\n",
     ) {
         Ok(text) => Reply::Mistake(text),
         Err(_) => Reply::NoMemory,
@@ -441,14 +450,14 @@ fn request_for<'a>(
     Ok(wanted_to(output, lines))
 }
 
-/// What is replied where an ascending stream is to be in a dialect, or beside another text.
+/// What is replied where an ascending stream is to be in a dialect, or read by several threads, or beside another text.
 fn wrong_stream(alloc: Global) -> Reply
     ensures { RepliesTo result (Replies (ErrorKind.ValueValidation ∷ [])) }
 {
     match String::from_str(
         alloc,
         "cores: --stream and --pieces take lines of two ids with a blank or a tab between them, and one goes without the other and --pieces \
-         without FILE; leave them out for other tables, or write such lines\n",
+         without FILE, and both without --threads; leave them out for other tables, or write such lines\n",
     ) {
         Ok(text) => Reply::Mistake(text),
         Err(_) => Reply::NoMemory,
@@ -466,23 +475,23 @@ fn one_file<'a>(alloc: Global, file: Option<&'a str>) -> Result<Vec<&'a str>, No
     Ok(files)
 }
 
-/// The check of a certificate for an ascending stream, where it is in no dialect.
+/// The check of a certificate for an ascending stream, where it is in no dialect and nothing is said of threads.
 fn stream_for<'a>(
     alloc: Global,
     certificate: &'a str,
     graph: NamedText<'a>,
 ) -> Result<Wanted<'a>, Reply>
     ensures asks { IfOk result (λ wanted. IsRequestFor wanted
-        (stream_wish certificate.entry.now (option_map (λ t. t.now) graph.entry.file) graph.entry.dialect)) }
+        (stream_wish certificate.entry.now (option_map (λ t. t.now) graph.entry.file) graph.entry.dialect graph.entry.threads)) }
     ensures replies { IfErr result (λ reply. RepliesTo reply
-        (stream_wish certificate.entry.now (option_map (λ t. t.now) graph.entry.file) graph.entry.dialect)) }
+        (stream_wish certificate.entry.now (option_map (λ t. t.now) graph.entry.file) graph.entry.dialect graph.entry.threads)) }
 {
-    match graph.dialect {
-        Some(_) => Err(wrong_stream(alloc)),
-        None => match one_file(alloc, graph.file) {
+    match (graph.dialect, graph.threads) {
+        (None, None) => match one_file(alloc, graph.file) {
             Ok(files) => Ok(Wanted::CheckStream(StreamRequest { certificate, files })),
             Err(_) => Err(Reply::NoMemory),
         },
+        _ => Err(wrong_stream(alloc)),
     }
 }
 
@@ -498,11 +507,18 @@ fn any_separator(files: &[&str]) -> bool
     false
 }
 
-/// Whether words ask for no other text than those of these files, and none of them is in a dialect.
+/// Whether nothing is said of a text but its file.
+fn tells_file_alone(graph: NamedText<'_>) -> bool
+    ensures { result ≡ tells_file_alone (text_of graph.entry) }
+{
+    !graph.dialect.is_some() && !graph.threads.is_some()
+}
+
+/// Whether words ask for no other text than those of these files, and nothing else is said of these.
 fn are_pieces(graph: NamedText<'_>, stream: bool, files: &[&str]) -> bool
     ensures { result ≡ are_pieces (text_of graph.entry) stream (map (λ t. t.now) files.now) }
 {
-    !stream && !graph.file.is_some() && !graph.dialect.is_some() && !any_separator(files)
+    !stream && !graph.file.is_some() && tells_file_alone(graph) && !any_separator(files)
 }
 
 /// The check of a certificate for an ascending stream in files, where no other text is asked for.

@@ -16,7 +16,8 @@ returns-in-Err-Refused-clause-stopped g c = λ known looked.
     let head = c.args.head.now in
     let refused = rw c.in-Err-Refused.field-0-is at c.in-Err-Refused.ensures.refused in
     let faultless = rw c.in-Err-Refused.field-0-is at c.in-Err-Refused.ensures.faultless in
-    let graph : GraphText = record { file = option_map (λ t. t.now) c.args.file; dialect = Some c.args.dialect } in
+    let graph : GraphText =
+    record { file = option_map (λ t. t.now) c.args.file; dialect = Some c.args.dialect; threads = c.args.threads } in
     HasNoGraph-refused c.refused.result graph (record { placed = placed; head = head }) known _ _ c.refused.ensures
     (graph_refused-in c.args.dialect placed known (g.S.Source.left c.args.source.now) head looked (refused placed refl))
     (faultless (λ e. absurd (cc)))

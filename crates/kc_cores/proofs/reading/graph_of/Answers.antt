@@ -4,6 +4,6 @@ use Rattle.kc_graph.proofs.Bulking.{pairs-graph}
 use Rattle.kc_cores.proofs.reading.graph_of.Goals as goal
 
 pub returns-clause-graph : goal.returns-clause-graph
-returns-clause-graph c =
+returns-clause-graph g c =
     let same = pairs-graph (length c.args.found.named.ids.items) c.args.found.named.edges.items c.requires.edges in
     search (rules, same)

@@ -7,7 +7,7 @@ use Rattle.kc_top.proofs.Stopping.{IsRefusalOf-refused}
 use Rattle.kc_top.proofs.reading.parsed.Goals as goal
 
 pub returns-in-Ok-clause-input : goal.returns-in-Ok-clause-input
-returns-in-Ok-clause-input c =
+returns-in-Ok-clause-input g c =
     let (told, means, is) = c.in-Ok.ensures.input in
     record {
       bytes = c.args.bytes.items;
@@ -26,7 +26,7 @@ returns-in-Ok-clause-input c =
     }
 
 pub returns-in-Err-Refused-clause-stopped : goal.returns-in-Err-Refused-clause-stopped
-returns-in-Err-Refused-clause-stopped c =
+returns-in-Err-Refused-clause-stopped g c =
     let refused = rw c.in-Err-Refused.field-0-is at c.in-Err-Refused.ensures.refused in
     IsRefusalOf-refused c.refused.result c.in-Err-Refused.refusal.line c.in-Err-Refused.refusal.kind c.args.bytes.items c.refused.ensures
     (ap (meaning KCORE) (sym c.deref.ensures.value) ∙ refused c.in-Err-Refused.refusal refl)

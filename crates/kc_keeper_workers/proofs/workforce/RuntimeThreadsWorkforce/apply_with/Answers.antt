@@ -1,6 +1,6 @@
 -- Workers are asked where threads may share their runtime.
 use Rattle.std.proofs.Math.Logic.{∥∥₁_elim}
-use Rattle.kc_keeper_workers.proofs.Sharing.{sync_prop}
+use Rattle.kc_threads.proofs.Sharing.{sync_prop}
 use Rattle.kc_keeper_workers.proofs.workforce.RuntimeThreadsWorkforce.apply_with.Goals as goal
 
 pub apply_with-requires-sync-R : goal.apply_with-requires-sync-R
