@@ -69,7 +69,7 @@ def main():
     words.add_argument("--cores", default=str(TOP / "crates/cores/out/cores"))
     program = words.parse_args().cores
     wrong = [name for name, *case in CASES if not is_right(program, *case)]
-    special = "it is a link, a pipe or a device, and is not replaced; write to it with >"
+    special = "it is a link, a pipe or a device, and is not replaced; name another file, or write the output to it with >"
     for name, line in (("/no/such/folder/out", "No such file or directory"), (tempfile.gettempdir(), "Is a directory"), ("/dev/null", special)):
         if not is_refused(program, name, line):
             wrong.append(name)

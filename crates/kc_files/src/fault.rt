@@ -35,7 +35,7 @@ impl FolderFault {
             FolderFault::Missing => "No such file or directory",
             FolderFault::Folder => "Is a directory",
             FolderFault::Special => {
-                "it is a link, a pipe or a device, and is not replaced; write to it with >"
+                "it is a link, a pipe or a device, and is not replaced; name another file, or write the output to it with >"
             }
             FolderFault::Forbidden => "Permission denied",
             FolderFault::Begun => {
