@@ -21,7 +21,7 @@ TOP = pathlib.Path(__file__).resolve().parent.parent
 CRATE = "doc_examples"
 LIBRARIES = (
     "kc_io kc_lines kc_files kc_wire kc_dialogue kc_lists kc_graph kc_flat kc_cert kc_tally kc_shard kc_hindex kc_text kc_dialect kc_names kc_head kc_read"
-    " kc_words kc_table kc_order kc_topo kc_view kc_journal kc_batch_effects kc_shared kc_workers kc_batch kc_run kc_snapshot kc_published kc_keeper"
+    " kc_threads kc_words kc_table kc_order kc_topo kc_view kc_journal kc_batch_effects kc_shared kc_workers kc_batch kc_run kc_snapshot kc_published kc_keeper"
     " kc_keeper_workers kc_changes kc_stream kc_answers kc_watch kc_top kc_claims kc_wishes kc_cores"
 )
 IMPORTS = ["std::alloc::Global", "std::process::Abort", "std::sync::Wait", "std::test::Fail", "std::thread::Threads"]
@@ -119,12 +119,12 @@ def look(write):
 
 
 def fences(text):
-    """Where the code of doc comments begins: the line of each fence, and the line behind its comment."""
+    """Where the code of doc comments begins: the line of each fence, and the line behind its comment. A fence of `text` is a sketch, and no code."""
     is_open = False
     for at, line in enumerate(text):
         if re.match(r"\s*//[/!] ```", line):
             is_open = not is_open
-            if is_open:
+            if is_open and not line.endswith("```text"):
                 behind = at
                 while re.match(r"\s*//[/!]", text[behind]):
                     behind += 1

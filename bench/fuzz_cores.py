@@ -8,9 +8,10 @@ The model follows the definitions: core numbers by taking vertices away, k-cores
 certify the numbers. Some runs ask for JSON, and its objects are those of Python's json. `check` is run on what `order` and `layers` write,
 and on the same with lines changed, swapped, left out, repeated or made foreign. It reads the graph from standard input, from a file, from a
 pipe by its name, and from a file whose edges ascend, some of which have a line that does not. Then a line that is wrong stands among the
-others: what is told has to name line and column, and to show the line with a caret. Some inputs begin with a byte order mark. At last a reader goes away
-that has taken one line. An input that differs is printed, and the status is 1 then. Tables with options that tell how they are read are
-those of `fuzz_tables.py`.
+others: what is told has to name line and column, and to show the line with a caret. Some inputs begin with a byte order mark. Some runs are by
+so many threads, which changes nothing. At last a text of many lines is read by one, two and three threads, also with a wrong line far behind, and
+a reader goes away that has taken one line. An input that differs is printed, and the status is 1 then. Tables with options that tell how they are
+read are those of `fuzz_tables.py`.
 """
 import argparse
 import json
@@ -92,6 +93,7 @@ def layers(neighbours, core):
 
 
 FORMATS = ((), ("--format", "tsv"), ("--format", "json"))
+THREADS = ((), ("--threads", "1"), ("--threads", "3"), ("--threads", "64"))
 
 
 def written(names, rows, words):
@@ -305,6 +307,25 @@ def is_quiet(program):
         return (running.wait(), line, told) == (0, b"0\t1\n", b"")
 
 
+def wrong_threads(program, draw):
+    """The words by which a run by several threads ends otherwise than by one. The text has so many lines that more than one reads it."""
+    lines = [f"{draw.randrange(50_000)}{draw.choice((' ', chr(9)))}{draw.randrange(50_000)}" for _ in range(300_000)]
+    lines[200_000] = "# a comment"
+    broken = lines[:250_000] + ["1 x"] + lines[250_000:]
+    for given in ("\n".join(lines), "\r\n".join(lines) + "\r\n", "\n".join(broken) + "\n"):
+        for words in (("numbers",), ("sizes", "--format", "json"), ("order",)):
+            one, *more = [run(program, (*words, "--threads", count), given) for count in ("1", "2", "3", "64")] + [run(program, words, given)]
+            if any(ended != one for ended in more):
+                yield words
+    for wrong in ("0", "65", "x", "-1", ""):
+        for words in (("numbers", "--threads", wrong), ("check", "/dev/null", "--threads", wrong)):
+            if run(program, words, "1 2\n")[:2] != (2, ""):
+                yield words
+    for words in (("watch", "--threads", "2"), ("check", "/dev/null", "--stream", "--threads", "2")):
+        if run(program, words, "1 2\n")[:2] != (2, ""):
+            yield words
+
+
 # a line that is refused, and the column that is told of it
 WRONG_LINES = (("1 x", 3), ("x 1", 1), ("7", 2), ("1 2 3", 5), ("4294967296 1", 1), ("12\t99999999999", 4), ("-1 2", 1), ("1 2 ö", 5), ("1 \x07", 3),
                ("batch", None), ("+ 1 2", None))
@@ -345,7 +366,7 @@ def wrong_refusals(program, draw, text):
         given = marked(draw, "\n".join(lines)).encode()
         column = column and column + len(blanks)
         place = f"cores: line {number}, column {column}: " if column else f"cores: line {number}: "
-        status, written_lines, told = run(program, ("numbers",), given)
+        status, written_lines, told = run(program, ("numbers", *draw.choice(THREADS)), given)
         if (status, written_lines, told.splitlines()[1:]) != (3, "", shown_lines(given, number, column)) or not told.startswith(place):
             yield "numbers", repr(given), repr(told)
 
@@ -366,7 +387,7 @@ def faults(program, draw, text, k):
     text = marked(draw, text)
     for words, (names, rows) in wanted(neighbours, core, k).items():
         quiet = ("--quiet",) if draw.random() < 0.2 else ()
-        asked, told = (*words, *quiet, *draw.choice(FORMATS)), "" if quiet else summary
+        asked, told = (*words, *quiet, *draw.choice(FORMATS), *draw.choice(THREADS)), "" if quiet else summary
         if run(program, asked, text) != (0, written(names, rows, asked), told):
             yield asked
     status, lines, told = run(program, ("order",), text)
@@ -394,6 +415,9 @@ def main():
             for found in (*faults(chosen.cores, draw, text, k), *checks, *refusals):
                 wrong += 1
                 print(f"case {case}: cores {' '.join(found)} differs on {text!r}")
+    for found in wrong_threads(chosen.cores, random.Random(chosen.seed)):
+        wrong += 1
+        print(f"cores {' '.join(found)} differs by the number of threads, or takes a number that is none")
     if not is_quiet(chosen.cores):
         wrong += 1
         print("cores numbers: a reader that goes away is told as a fault")

@@ -64,6 +64,7 @@ TABLE = b"a,b\n1,2\n2,3\n3,1\n"
 BROKEN = b"1 2\n2 x\n"
 CORES_CASES = (
     ("cores: numbers", ["numbers"], TRIANGLE),
+    ("cores: numbers by three threads", ["numbers", "--threads", "3"], TRIANGLE),
     ("cores: numbers as JSON lines", ["numbers", "--format", "json"], TRIANGLE),
     ("cores: sizes", ["sizes"], TRIANGLE),
     ("cores: the edges of a core", ["members", "--core", "2", "--edges"], TRIANGLE),

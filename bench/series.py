@@ -6,8 +6,8 @@
 GRAPH are edge lists without batches, named after their files; DIR of --peers holds `gen`, `peer_plain`, `peer_order` and `peer_igraph`.
 All times are processor time but where the clock is told, medians of --rounds runs (5) in turns: so other work on the machine falls on all
 alike. Where it is allowed the runs have a real-time priority. The outputs have to be the same, or the script ends with status 1. With
---only NAME,NAME.. it makes these tables alone: rest, updates, large, back, workers, check, tables, watch, ones, stream. The last one is of the
-text that --stream FILE names, as `bench/cochange.py` writes it.
+--only NAME,NAME.. it makes these tables alone: rest, threads, updates, large, back, workers, check, tables, watch, ones, stream. The last one is
+of the text that --stream FILE names, as `bench/cochange.py` writes it.
 """
 import argparse
 import hashlib
@@ -156,6 +156,18 @@ def static(series, graphs):
         print(f"| {graph.stem} | {plain[0] * 1e3:.0f} | {cores[3]:.2f} | {kcore[3]:.2f} | {kcore[3] / igraph[3]:.2f} | {cores[2]:.0f} |", flush=True)
 
 
+def threads(series, graphs):
+    """Core numbers of a graph at rest that several threads read: the clock and the processor time, beside `plain`."""
+    counts = ("1", "2", "4")
+    print("| Graph | `plain`, ms by the clock | " + " | ".join(f"`--threads {count}`: clock, processor" for count in counts) + " |")
+    print("|---|---|" + "---|" * len(counts))
+    for graph in graphs:
+        commands = [[series.peers / "peer_plain"], *([series.cores, "numbers", "--threads", count] for count in counts)]
+        plain, *told = series.turns(commands, graph, same=False)
+        cells = [f"{each[4]:.2f}, {each[3]:.2f}" for each in told]
+        print(f"| {graph.stem} | {plain[1] * 1e3:.0f} | " + " | ".join(cells) + " |", flush=True)
+
+
 def batches(series, graphs):
     """10,000 random updates in 100 batches, beside the same algorithm without proofs, and beside computing anew."""
     print("| Graph | `kcore`, s | `order`, s | `kcore` / `order` | An update, microseconds | That of `order` | All anew, a batch, ms: `plain`, igraph |")
@@ -291,6 +303,7 @@ def main():
     mixed = [graph for graph in graphs if not graph.stem.startswith(("star", "ba-"))]
     parts = {
         "rest": ("Core numbers of a graph at rest", static, graphs),
+        "threads": ("Core numbers of a graph at rest by several threads, beside `plain`", threads, graphs),
         "updates": ("10,000 random updates in 100 batches", batches, [graph for graph in graphs if not graph.stem.startswith(("star", "er-"))]),
         "large": ("One large batch", large_batches, real),
         "back": ("Edges that go and come back", given_back, [graph for graph in graphs if graph.stem.endswith("-18")]),
